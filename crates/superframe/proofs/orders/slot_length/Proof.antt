@@ -1,0 +1,22 @@
+-- `superframe::orders::slot_length` meets its contract. Assumes nothing.
+use mathlib.Core.Path.{ap}
+use Rattle.superframe.specs.Measures.{symbols}
+use native.Mathlib.Omega.{arith}
+use Rattle.superframe.proofs.Limits.{shifted}
+use Rattle.superframe.specs.Orders.{slot}
+use borrow.Author.Needs.{needs}
+use Rattle.superframe.proofs.orders.slot_length.Statement.{statement}
+use Rattle.superframe.proofs.orders.slot_length.Tie as tie
+
+order-requires : tie.Need-order-requires
+order-requires c κs = search needs
+
+shl-t3 : tie.Need-shl-t3
+shl-t3 c = search needs
+
+returns : tie.Need-returns
+unfolding slot
+returns c = let e = c .order .ensures in rw (← e .0) (ap symbols (shifted 60 (omega arith) (e .1)))
+
+pub slot-length-spec : {M : Type 1} → statement M
+slot-length-spec = tie.close (tie.spec order-requires shl-t3 returns)

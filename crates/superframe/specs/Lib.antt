@@ -1,0 +1,11 @@
+-- What a reader must believe of time on the air, in document 01's order. Assumes nothing.
+-- the measures and what leads from one to another
+pub mod Measures
+-- BI, SD, S, the contention period, L
+pub mod Orders
+-- X
+pub mod Exchange
+-- m, k, the rate of a reservation, T
+pub mod Reservation
+-- document 01's figures, computed in one table
+pub mod Figures

@@ -1,0 +1,93 @@
+// Runs the compiled functions of superframe and writes what they answer, one line a case. The file `stdout` beside src/ has what
+// document 01 and IEEE 802.15.4-2006 state, worked out apart from this code; the check compares the two.
+use libc::STDOUT_FILENO;
+use superframe::exchange::exchange_time;
+use superframe::measure::Rate;
+use superframe::measure::Slots;
+use superframe::measure::Symbols;
+use superframe::orders::beacon_interval;
+use superframe::orders::contention_slots;
+use superframe::orders::reservable_slots;
+use superframe::orders::slot_length;
+use superframe::orders::superframe_duration;
+use superframe::reservation::frames_in;
+use superframe::reservation::latency_of;
+use superframe::reservation::slots_for;
+
+fn main() {
+    orders();
+    exchanges();
+    // Rows of document 01's worked plans: P1, P3, P5, P6; then slots that hold nothing, and rates that no slots hold.
+    reservation(8, 4, 26, 1);
+    reservation(0, 0, 26, 1);
+    reservation(4, 0, 18, 1);
+    reservation(4, 0, 18, 2);
+    reservation(4, 0, 18, 0);
+    reservation(14, 14, 127, 4095);
+    reservation(14, 0, 127, u64::MAX);
+}
+
+// Each order of document 01, and one above.
+fn orders() {
+    for o in 0..16 {
+        order_line(o);
+    }
+}
+
+// BI, SD, S, contention slots, L.
+fn order_line(o: u64) {
+    name(b"order");
+    number(o);
+    number(beacon_interval(o).0);
+    number(superframe_duration(o).0);
+    number(slot_length(o).0);
+    number(contention_slots(o).0);
+    number(reservable_slots(o).0);
+    end();
+}
+
+// Each count of octets of document 01, and one on either side.
+fn exchanges() {
+    for m in 5..129 {
+        exchange_line(m);
+    }
+}
+
+// X without and with acknowledgement.
+fn exchange_line(m: u64) {
+    name(b"exchange");
+    number(m);
+    number(exchange_time(m, false).0);
+    number(exchange_time(m, true).0);
+    end();
+}
+
+// For orders, octets and a rate: k, m, T.
+fn reservation(bo: u64, so: u64, octets: u64, rate: u64) {
+    let s = slot_length(so);
+    let x = exchange_time(octets, false);
+    let k = slots_for(Rate(rate), s, x);
+    let m = frames_in(k, s, x);
+    name(b"reservation");
+    number(bo);
+    number(so);
+    number(octets);
+    number(rate);
+    number(k.0);
+    number(m.0);
+    number(latency_of(beacon_interval(bo), m, x).0);
+    end();
+}
+
+fn name(text: &[u8]) {
+    io::write_all(STDOUT_FILENO, text);
+}
+
+fn number(n: u64) {
+    io::write_all(STDOUT_FILENO, b" ");
+    io::print_decimal(STDOUT_FILENO, n);
+}
+
+fn end() {
+    io::write_all(STDOUT_FILENO, b"\n");
+}
