@@ -1,7 +1,7 @@
 -- The exchange time X of a frame of M octets (document 01, 'Time on the air'): "One exchange lasts X = 12 + 2M symbols, plus 34 if
 -- acknowledged (turnaround 12, acknowledgement 22), plus 12 if M ≤ 18 and else 40." Assumes nothing: these are definitions.
 use Prim.Native.Nat.{ℕ, _+_, _*_}
-use mathlib.Core.Bool.{Bool, true, cond, _&&_}
+use mathlib.Core.Bool.{Bool, cond, _&&_}
 use lib.Dec.{leb}
 use Rattle.superframe.specs.declared.measure.Symbols.{Symbols}
 use Rattle.superframe.specs.Measures.{symbols}

@@ -1,7 +1,7 @@
 -- The measures of document 01, 'Time on the air': "Symbols, slots and frames are each counted in a measure that does not add to
 -- another. Bursts are in frame-symbols, that is, frames × BI." Rates are frames per BI. Assumes nothing: these are definitions.
 use Prim.Native.Nat.{ℕ, _+_, _-_, _*_, _/_, _^_, min}
-use mathlib.Core.Bool.{Bool, cond}
+use mathlib.Core.Bool.{cond}
 use lib.Dec.{ltb}
 use Rattle.superframe.specs.declared.measure.Symbols.{Symbols}
 use Rattle.superframe.specs.declared.measure.Slots.{Slots}

@@ -1,6 +1,6 @@
 -- A reservation of k slots of S symbols, for exchanges of X symbols (document 01, 'Time on the air' and 'The tree and its loads').
 -- Assumes nothing: these are definitions.
-use Prim.Native.Nat.{ℕ, _+_, _-_, _*_, _/_, _≤_}
+use Prim.Native.Nat.{_+_, _-_, _*_, _/_, _≤_}
 use Rattle.superframe.specs.declared.measure.Symbols.{Symbols}
 use Rattle.superframe.specs.declared.measure.Slots.{Slots}
 use Rattle.superframe.specs.declared.measure.Frames.{Frames}
