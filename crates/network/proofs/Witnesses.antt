@@ -13,8 +13,8 @@ use Rattle.network.specs.Readings.{made}
 use Rattle.network.specs.Run.{deliver, feeds, ends, arrived, arrivals, endExchanges, fresh, makeReadings}
 use Rattle.network.specs.Oracle.{isStart, idle, behind, takeOldest, serve, begun, serveAll, symbol, run}
 use Rattle.network.specs.Loads.{Figures, burstAfter, Provisioned, Buckets}
-use Rattle.network.specs.Examples.{link, of, reading, one, first, written, received}
-use Rattle.network.specs.Witness.{perNode, fullFigures, fullReadings, Full, tree, treeFigures, treeReadings, Travelled}
+use Rattle.network.specs.Examples.{link, perNode, reading, one, first, written, received}
+use Rattle.network.specs.Witness.{fullFigures, fullReadings, Full, tree, treeFigures, treeReadings, Travelled}
 use Rattle.network.proofs.Sums.{total-ap, total-add, total-zero, total-shift, total-pick}
 use Rattle.network.proofs.Answers.{and-false, eqb-sym, bit-le}
 
@@ -128,7 +128,7 @@ full = record { provisioned = full-provisioned; buckets = full-buckets; reached 
 -- ---- the tree
 
 tree-provisioned : Provisioned tree treeFigures
-unfolding tree of treeFigures perNode burstAfter total bit feeds
+unfolding tree treeFigures perNode burstAfter total bit feeds
 tree-provisioned =
     let N : Network = tree in
     let F : Figures = treeFigures in
@@ -170,5 +170,5 @@ tree-buckets = record {
     node v x t h = omega (arith, stretch-le 0 x t, total-ap (λ i. made treeReadings (x + i) v) (λ i. bit (eqb 0 (x + i))) t (λ i k. tree-made (x + i) v h))
 
 pub travelled : Travelled
-unfolding tree of treeReadings reading received written first run symbol serveAll begun serve takeOldest behind idle isStart makeReadings fresh endExchanges arrivals arrived ends feeds deliver made keep join below
+unfolding tree perNode treeReadings reading received written first run symbol serveAll begun serve takeOldest behind idle isStart makeReadings fresh endExchanges arrivals arrived ends feeds deliver made keep join below
 travelled = record { provisioned = tree-provisioned; buckets = tree-buckets; arrived = refl }

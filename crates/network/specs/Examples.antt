@@ -16,20 +16,20 @@ use Rattle.network.specs.Claim.{within, present}
 unfoldable pub link : ℕ → ℕ → ℕ → Network
 link a m X = record { nodes = 2; sink = 0; next = λ v. 0; interval = 10; exchange = X; offset = λ v. a; holds = λ v. m }
 
--- the figure of node 1, or of node 2, or of the nodes from 3 on
-unfoldable pub of : ℕ → ℕ → ℕ → ℕ → ℕ
-of a b c zero = 0
-of a b c (suc zero) = a
-of a b c (suc (suc zero)) = b
-of a b c (suc (suc (suc v))) = c
+-- a figure of each node: of the sink, of node 1, of node 2, and of the nodes from 3 on
+unfoldable pub perNode : ℕ → ℕ → ℕ → ℕ → ℕ → ℕ
+perNode k a b c zero = k
+perNode k a b c (suc zero) = a
+perNode k a b c (suc (suc zero)) = b
+perNode k a b c (suc (suc (suc v))) = c
 
 -- node 2 sends to node 1, with its window at 3, and node 1 to the sink, with its window at a; each window holds one exchange of 2 symbols
 unfoldable pub hops : ℕ → Network
-hops a = record { nodes = 3; sink = 0; next = of 0 1 1; interval = 10; exchange = 2; offset = of a 3 0; holds = λ v. 1 }
+hops a = record { nodes = 3; sink = 0; next = perNode 0 0 1 1; interval = 10; exchange = 2; offset = perNode 0 a 3 0; holds = λ v. 1 }
 
 -- nodes 2 and 3 send to node 1, both in symbol 2, and node 1 sends to the sink, in symbols 5 and 7
 unfoldable pub fork : Network
-fork = record { nodes = 4; sink = 0; next = of 0 1 1; interval = 10; exchange = 2; offset = of 5 2 2; holds = of 2 1 1 }
+fork = record { nodes = 4; sink = 0; next = perNode 0 0 1 1; interval = 10; exchange = 2; offset = perNode 0 5 2 2; holds = perNode 0 2 1 1 }
 
 -- ---- readings and oracles
 

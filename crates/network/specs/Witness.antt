@@ -2,32 +2,26 @@
 -- queues cannot be lowered. Assumes nothing.
 use mathlib.Core.Path.{_≡_}
 use mathlib.Core.List.{List, [], _∷_, _++_}
-use Prim.Native.Nat.{ℕ, zero, suc, _*_}
+use Prim.Native.Nat.{_*_}
 use lib.ListN.{length}
 use Rattle.network.specs.Model.{Network, queue}
 use Rattle.network.specs.Readings.{Reading}
 use Rattle.network.specs.Oracle.{run}
 use Rattle.network.specs.Loads.{Figures, burstAfter, Provisioned, Buckets}
-use Rattle.network.specs.Examples.{link, of, reading, one, first, received}
-
--- the figure of the sink, or of node 1, or of the nodes from 2 on
-unfoldable pub perNode : ℕ → ℕ → ℕ → ℕ → ℕ
-perNode a b c zero = a
-perNode a b c (suc zero) = b
-perNode a b c (suc (suc v)) = c
+use Rattle.network.specs.Examples.{link, perNode, reading, one, first, received}
 
 -- ---- one link whose queue is filled to its bound
 
 -- BI = 10, X = 1, m = 1, ρ = 1, β = 9, so T = 11 and β + ρ × T = 20
 unfoldable pub fullFigures : Figures
 fullFigures = record {
-  ownRate = perNode 0 1 0;
-  ownBurst = perNode 0 9 0;
-  rate = perNode 1 1 0;
-  burst = perNode 20 9 0;
-  latency = perNode 0 11 0;
-  delay = perNode 0 20 0;
-  route = perNode 0 20 0;
+  ownRate = perNode 0 1 0 0;
+  ownBurst = perNode 0 9 0 0;
+  rate = perNode 1 1 0 0;
+  burst = perNode 20 9 0 0;
+  latency = perNode 0 11 0 0;
+  delay = perNode 0 20 0 0;
+  route = perNode 0 20 0 0;
 }
 
 -- a frame in symbol 0, which misses the start in 0, and one in symbol 10, in which the first goes on the air
@@ -44,18 +38,18 @@ pub record Full : Type 0 where
 
 -- Nodes 2 and 3 send to node 1, in symbols 0 and 2; node 1 sends to the sink, 0, in symbols 7, 8 and 9: its window ends with the interval.
 unfoldable pub tree : Network
-tree = record { nodes = 4; sink = 0; next = of 0 1 1; interval = 10; exchange = 1; offset = of 7 0 2; holds = of 3 1 1 }
+tree = record { nodes = 4; sink = 0; next = perNode 0 0 1 1; interval = 10; exchange = 1; offset = perNode 0 7 0 2; holds = perNode 0 3 1 1 }
 
 -- ρ = 1 and β = 10 for each sensor, T = 11 for nodes 2 and 3 and 9 for node 1
 unfoldable pub treeFigures : Figures
 treeFigures = record {
-  ownRate = perNode 1 1 1;
-  ownBurst = perNode 10 10 10;
-  rate = perNode 4 3 1;
-  burst = perNode 89 52 10;
-  latency = perNode 0 9 11;
-  delay = perNode 0 27 21;
-  route = perNode 0 27 48;
+  ownRate = perNode 1 1 1 1;
+  ownBurst = perNode 10 10 10 10;
+  rate = perNode 4 3 1 1;
+  burst = perNode 89 52 10 10;
+  latency = perNode 0 9 11 11;
+  delay = perNode 0 27 21 21;
+  route = perNode 0 27 48 48;
 }
 
 -- every sensor makes a frame in symbol 0
