@@ -1,8 +1,8 @@
--- The frames at one node, counted: what came is what waits, what is on the air and what left; and since some symbol every start was
--- used. Assumes nothing.
+-- The frames at one node, counted: what came is what waits, what is on the air and what left; and what comes is what left its neighbours
+-- and what it makes. Assumes nothing.
 use mathlib.Core.Path.{_≡_, refl, sym, ap, _∙_}
 use mathlib.Core.Logic.{_≢_}
-use mathlib.Core.Bool.{Bool, true, false, cond, not, _&&_}
+use mathlib.Core.Bool.{Bool, true, false, cond, not, _&&_, and-false}
 use mathlib.Core.List.{List, [], _++_, map}
 use Prim.Native.Nat.{ℕ, zero, suc, _+_, _*_, _-_, _≤_, _<_, min}
 use native.Mathlib.Nat.{le-refl, zero-sub}
@@ -10,25 +10,18 @@ use native.Mathlib.Decide.{le-ind, decLe}
 use native.Mathlib.Omega.{arith}
 use lib.Dec.{eqb, ltb}
 use lib.ListN.{replicate}
-use borrow.Author.Tests.{eqb-true, eqb-false, lt-ltb, eq-eqb, ne-eqb}
+use borrow.Author.Tests.{eqb-true, eq-eqb, ne-eqb}
 use Rattle.network.specs.Counting.{total, bit, count, keep, join}
 use Rattle.network.specs.Model.{Network, Frame, Exchange, State}
 use Rattle.network.specs.Readings.{Reading, made}
 use Rattle.network.specs.Run.{feeds, ends, arrived, arrivals, fresh}
 use Rattle.network.specs.Oracle.{isStart, begun, run}
-use Rattle.network.proofs.Sums.{Busy, busy, total-ap, total-add, total-zero, total-cut}
-use Rattle.network.proofs.Answers.{and-false, bit-le}
+use Rattle.network.proofs.Sums.{total-ap, total-add, total-zero, total-cut}
+use Rattle.network.proofs.Answers.{eqb-add}
 use Rattle.network.proofs.Lists.{count-append, count-none, count-map, count-keep-split, count-keep, count-join, count-same, count-replicate, count-ap, count-all, All-imp, All-keep, All-true}
 use Rattle.network.proofs.Serving.{cameBefore, serve-count, serve-follows}
 use Rattle.network.proofs.Pace.{starts}
 use Rattle.network.proofs.Steps.{comes, comes-now, turn, next-waiting, next-air, next-received, Orderly, orderly}
-
-eqb-add : (a i x : ℕ) → eqb (a + x) (i + x) ≡ eqb a i
-eqb-add a i x = by (eqb a i) refl
-  where
-    by : (b : Bool) → eqb a i ≡ b → eqb (a + x) (i + x) ≡ b
-    by true e = eq-eqb (a + x) (i + x) (omega (arith, eqb-true a i e))
-    by false e = ne-eqb (a + x) (i + x) (λ h. eqb-false a i e (omega arith))
 
 -- every frame
 unfoldable pub any : Frame → Bool
@@ -186,66 +179,6 @@ module _ (N : Network) (l : List Reading) (pick : ℕ → ℕ → ℕ) where
       cut i = let q : List Frame = comes N l i v (run N l pick i) in
           count-same (cameBefore c) (ltb i c) q (All-imp (λ f e. ap (λ (k : ℕ). ltb k c) e) (comes-now N l i v (run N l pick i)))
           ∙ ap (λ (k : ℕ). bit (ltb i c) * k) (sym (count-all any q (All-true (λ f. refl) q)))
-
-  -- ---- Since some symbol every start took a frame that came before symbol c.
-
-  pub waits-busy : (c v u : ℕ) → v ≢ N .sink → Busy (waits (cameBefore c) v) (come (cameBefore c) v) (starts N v) u
-  unfolding waits run count starts
-  waits-busy c v u ns = busy (waits (cameBefore c) v) (come (cameBefore c) v) (starts N v) refl (λ i. bit-le (isStart N v i)) (λ i. waits-follow c v i ns) u
-
-  waits-any : (v u c : ℕ) → v ≢ N .sink → u ≤ c → waits (cameBefore c) v u ≡ waits any v u
-  unfolding waits any cameBefore
-  waits-any v u c ns h = count-ap (cameBefore c) any (run N l pick u .waiting v) (All-imp (λ f k. lt-ltb (f .came) c (omega arith)) (orderly N l pick v u ns .earlier))
-
-  -- The queue before symbol u, of the frames that came before symbol c: since symbol `from` every start took one of them.
-  pub record Backlog (c v u : ℕ) : Type 0 where
-    pub from : ℕ
-    pub before : from ≤ u - N .exchange
-    pub used : waits (cameBefore c) v u + onAir (cameBefore c) v u + total (starts N v) (u - N .exchange) + came v (min (from - 1) c) ≡ came v (min u c) + total (starts N v) from
-
-  pub backlog : (c v u : ℕ) → v ≢ N .sink → 0 < N .exchange → Backlog c v u
-  backlog c v u ns x =
-      let z : ℕ = u - N .exchange in
-      let b : Busy (waits (cameBefore c) v) (come (cameBefore c) v) (starts N v) z = waits-busy c v z ns in
-      record {
-        from = b .from;
-        before = b .before;
-        used = omega (
-          arith,
-          b .used,
-          waits-total (cameBefore c) v u ns,
-          air-total (cameBefore c) v u ns,
-          left (cameBefore c) v u ns x,
-          waits-total (cameBefore c) v z ns,
-          come-total c v u,
-          come-total c v (b .from - 1),
-        );
-      }
-
-  -- What left before symbol u: since symbol `from` every start sent a frame, and none left that came after its last start.
-  pub record Output (v u : ℕ) : Type 0 where
-    pub from : ℕ
-    pub before : from ≤ u - N .exchange
-    pub used : gone v u + total (starts N v) from ≡ total (starts N v) (u - N .exchange) + came v (from - 1)
-    pub most : gone v u ≤ came v (u - N .exchange)
-
-  pub output : (v u : ℕ) → v ≢ N .sink → 0 < N .exchange → Output v u
-  unfolding gone came
-  output v u ns x =
-      let z : ℕ = u - N .exchange in
-      let b : Busy (waits (cameBefore z) v) (come (cameBefore z) v) (starts N v) z = waits-busy z v z ns in
-      let so-far : b .from ≤ z = b .before in
-      let all : min z z ≡ z = omega arith in
-      let few : min (b .from - 1) z ≡ b .from - 1 = omega arith in
-      let now : total (come (cameBefore z) v) z ≡ total (come any v) z = come-total z v z ∙ ap (λ (k : ℕ). total (come any v) k) all in
-      let then : total (come (cameBefore z) v) (b .from - 1) ≡ total (come any v) (b .from - 1) = come-total z v (b .from - 1) ∙ ap (λ (k : ℕ). total (come any v) k) few in
-      let sent : waits any v z + total (leave any v) u ≡ total (come any v) z = omega (arith, left any v u ns x, waits-total any v z ns) in
-      record {
-        from = b .from;
-        before = so-far;
-        used = omega (arith, b .used, waits-any v z z ns (le-refl z));
-        most = omega arith;
-      }
 
   -- ---- what comes to a node: its own sensor's frames, and what left its neighbours
 

@@ -17,7 +17,8 @@ use Rattle.network.specs.Loads.{Figures, burstAfter, Linked, Provisioned
 use Rattle.network.proofs.Sums.{total-add, total-mul, total-mono, total-le, total-shift}
 use Rattle.network.proofs.Serving.{cameBefore}
 use Rattle.network.proofs.Pace.{starts, pace}
-use Rattle.network.proofs.Accounting.{waits, onAir, came, gone, Backlog, backlog, Output, output, came-from}
+use Rattle.network.proofs.Accounting.{waits, onAir, came, gone, came-from}
+use Rattle.network.proofs.Backlogs.{Backlog, backlog, Output, output}
 
 -- ---- numbers
 

@@ -1,7 +1,7 @@
 -- The proofs of the statements in specs/. Assumes nothing.
--- tests and their answers
+-- facts about tests
 pub mod Answers
--- laws of sums; busy periods
+-- laws of sums
 pub mod Sums
 -- laws of counts and lists
 pub mod Lists
@@ -15,6 +15,8 @@ pub mod Pace
 pub mod Steps
 -- the frames at a node, counted
 pub mod Accounting
+-- busy periods: queues and what has left them
+pub mod Backlogs
 -- loads, queues and stays
 pub mod Bounds
 -- delays over a route
@@ -33,5 +35,5 @@ pub mod Theorem
 pub mod ExamplesHold
 -- hypotheses that are met together
 pub mod Witnesses
--- queues within a symbol
+-- one symbol of a run
 pub mod Moments

@@ -1,7 +1,7 @@
 -- No frame is lost or doubled, and none changes its sensor or the symbol in which it was made. Assumes nothing.
 use mathlib.Core.Path.{_≡_, refl, sym, ap, ap₂, _∙_, subst}
 use mathlib.Core.Logic.{_≢_}
-use mathlib.Core.Bool.{Bool, true, false, cond, not, _&&_}
+use mathlib.Core.Bool.{Bool, true, false, cond, not, _&&_, and-true, and-false}
 use mathlib.Core.List.{List, [], _∷_, map}
 use Prim.Native.Nat.{ℕ, zero, suc, _+_, _*_, _≤_, _<_}
 use native.Mathlib.Decide.{ℕ-discrete, decLe}
@@ -15,7 +15,7 @@ use Rattle.network.specs.Run.{feeds, arrived, fresh}
 use Rattle.network.specs.Oracle.{run}
 use Rattle.network.specs.Claim.{tagged, present}
 use Rattle.network.proofs.Sums.{total-ap, total-add, total-swap, total-zero, total-pick}
-use Rattle.network.proofs.Answers.{and-true, and-false, eqb-sym}
+use Rattle.network.proofs.Answers.{eqb-sym}
 use Rattle.network.proofs.Lists.{count-append, count-map}
 use Rattle.network.proofs.Steps.{sink-waiting, sink-air}
 use Rattle.network.proofs.Accounting.{waits, onAir, come, leave, waits-step, air-step, come-from, received-all}

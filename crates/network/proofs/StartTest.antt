@@ -1,26 +1,17 @@
 -- The test `isStart` (specs/Oracle) answers exactly the question `Start` (specs/Run), in any network. Assumes nothing.
 use mathlib.Core.Path.{_≡_, refl, sym, ap, ap₂, _∙_, subst}
-use mathlib.Core.Logic.{_≢_}
-use mathlib.Core.Bool.{Bool, true, false, not, _&&_, _||_, false≢true}
+use mathlib.Core.Bool.{Bool, true, false, not, _&&_, _||_, false≢true, or-true, and-eq-true-iff}
 use Prim.Native.Nat.{ℕ, zero, suc, _+_, _*_, _-_, _/_, _%_, _≤_, _<_}
 use native.Mathlib.Nat.{le-refl, div-add-mod', mul-mod-left}
 use native.Mathlib.Decide.{ℕ-discrete}
 use native.Mathlib.Omega.{arith}
 use lib.Dec.{eqb, leb}
 use lib.Arith.{digits-mod}
-use borrow.Author.Tests.{eqb-true, eqb-false, eq-eqb, ne-eqb, leb-true, le-leb}
+use borrow.Author.Tests.{not-true, eqb-true, eqb-false, eq-eqb, ne-eqb, leb-true, le-leb}
 use Rattle.network.specs.Counting.{below}
 use Rattle.network.specs.Model.{Network}
 use Rattle.network.specs.Run.{Start}
 use Rattle.network.specs.Oracle.{isStart}
-
-and-left : (a b : Bool) → a && b ≡ true → a ≡ true
-and-left true b h = refl
-and-left false b h = absurd (false≢true h)
-
-and-right : (a b : Bool) → a && b ≡ true → b ≡ true
-and-right true b h = h
-and-right false b h = absurd (false≢true h)
 
 -- ---- some number below n
 
@@ -43,10 +34,6 @@ unfolding below
 finds zero p j h e = absurd (omega arith)
 finds (suc n) p j h e = by (ℕ-discrete j n) (λ k. finds n p j k e)
   where
-    or-true : (b : Bool) → b || true ≡ true
-    or-true true = refl
-    or-true false = refl
-
     by : Dec (j ≡ n) → (j < n → below n p ≡ true) → p n || below n p ≡ true
     by (yes d) go = rw (subst (λ (i : ℕ). p i ≡ true) d e)
     by (no d) go = rw (go (omega (arith, d))) (or-true (p n))
@@ -65,8 +52,8 @@ module _ (B : ℕ) where
   later-true : (first n : ℕ) → later first n ≡ true → n ≡ (n - first) / B * B + first
   unfolding later
   later-true first n h =
-      let le : first ≤ n = leb-true first n (and-left _ _ h) in
-      let rest : (n - first) % B ≡ 0 = eqb-true _ _ (and-right (leb first n) _ h) in
+      let le : first ≤ n = leb-true first n (and-eq-true-iff (leb first n) _ .0 h .0) in
+      let rest : (n - first) % B ≡ 0 = eqb-true _ _ (and-eq-true-iff (leb first n) _ .0 h .1) in
       omega (arith, rest, div-add-mod' (n - first) B)
 
   is-later : (first n q : ℕ) → n ≡ q * B + first → later first n ≡ true
@@ -86,19 +73,12 @@ module _ (B : ℕ) where
 
 -- ---- starts
 
-unlinked : (v k : ℕ) → not (eqb v k) ≡ true → v ≢ k
-unlinked v k h = by (eqb v k) refl h
-  where
-    by : (b : Bool) → eqb v k ≡ b → not b ≡ true → v ≢ k
-    by true e h = absurd (false≢true h)
-    by false e h = eqb-false v k e
-
 pub test-start : (N : Network) (v n : ℕ) → isStart N v n ≡ true → Start N v n
 unfolding isStart later
 test-start N v n h =
-    let f = found (N .holds v) (λ j. later (N .interval) (N .offset v + j * N .exchange) n) (and-right (not (eqb v (N .sink))) _ h) in
+    let f = found (N .holds v) (λ j. later (N .interval) (N .offset v + j * N .exchange) n) (and-eq-true-iff (not (eqb v (N .sink))) _ .0 h .1) in
     record {
-      linked = unlinked v (N .sink) (and-left _ _ h);
+      linked = eqb-false v (N .sink) (not-true (eqb v (N .sink)) (and-eq-true-iff (not (eqb v (N .sink))) _ .0 h .0));
       q = (n - (N .offset v + f .which * N .exchange)) / N .interval;
       j = f .which;
       held = omega (arith, f .less);

@@ -1,11 +1,10 @@
--- Laws of sums, and the busy period of a queue that is served at given symbols. Assumes nothing.
+-- Laws of sums. Assumes nothing.
 use mathlib.Core.Path.{_≡_, refl, sym, ap, ap₂, _∙_}
-use Prim.Native.Nat.{ℕ, zero, suc, _+_, _*_, _-_, _≤_, _<_, min}
+use Prim.Native.Nat.{ℕ, zero, suc, _+_, _*_, _≤_, _<_, min}
 use native.Mathlib.Nat.{le-refl, add-zero, add-suc, zero-min}
 use lib.Dec.{ltb, eqb}
 use borrow.Author.Tests.{lt-ltb, le-ltb, eq-eqb, ne-eqb}
 use Rattle.network.specs.Counting.{total, bit}
-use native.Mathlib.Numerals.{sub-one}
 use native.Mathlib.Decide.{le-ind, decLe, ℕ-discrete}
 use native.Mathlib.Omega.{arith}
 
@@ -83,19 +82,3 @@ total-pick f a (suc n) = by (ℕ-discrete n a) (total-pick f a n)
         side : Dec (a < n) → total (λ i. bit (eqb i a) * f i) n + 0 * f n ≡ bit (ltb a (suc n)) * f a
         side (yes k) = let h′ = rw (lt-ltb a n k) at h in rw (lt-ltb a (suc n) (omega arith)) (omega arith)
         side (no k) = let h′ = rw (le-ltb a n (omega arith)) at h in rw (le-ltb a (suc n) (omega (arith, d))) (omega arith)
-
--- A busy period. In symbol u a queue gets a u, and a start takes one of those that were there before, if there are any. Then since some
--- symbol s every start was used.
-pub record Busy (w a st : ℕ → ℕ) (u : ℕ) : Type 0 where
-  pub from : ℕ
-  pub before : from ≤ u
-  pub used : w u + total st u + total a (from - 1) ≡ total a u + total st from
-
-pub busy : (w a st : ℕ → ℕ) → w 0 ≡ 0 → ((u : ℕ) → st u ≤ 1) → ((u : ℕ) → w (suc u) ≡ (w u - st u) + a u) → (u : ℕ) → Busy w a st u
-unfolding total
-busy w a st z one step zero = record { from = 0; before = le-refl 0; used = omega arith }
-busy w a st z one step (suc u) = go (decLe (st u) (w u)) (busy w a st z one step u)
-  where
-    go : Dec (st u ≤ w u) → Busy w a st u → Busy w a st (suc u)
-    go (yes k) b = record { from = b .from; before = omega arith; used = omega (arith, step u, b .used) }
-    go (no k) b = record { from = suc u; before = le-refl (suc u); used = simp sub-one (omega (arith, step u, one u)) }

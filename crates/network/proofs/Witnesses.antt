@@ -1,7 +1,7 @@
 -- The witnesses (specs/Witness). Assumes nothing.
 use mathlib.Core.Path.{_≡_, refl, ap, _∙_}
 use mathlib.Core.Logic.{_≢_}
-use mathlib.Core.Bool.{Bool, true, false, cond, _&&_}
+use mathlib.Core.Bool.{Bool, true, false, cond, _&&_, and-false}
 use Prim.Native.Nat.{ℕ, zero, suc, _+_, _*_, _≤_, _<_}
 use native.Mathlib.Decide.{decLe}
 use native.Mathlib.Omega.{arith}
@@ -16,7 +16,7 @@ use Rattle.network.specs.Loads.{Figures, burstAfter, Provisioned, Bucket
 use Rattle.network.specs.Examples.{link, perNode, reading, one, first, written, received}
 use Rattle.network.specs.Witness.{fullFigures, fullReadings, Full, tree, treeFigures, treeReadings, Travelled}
 use Rattle.network.proofs.Sums.{total-ap, total-add, total-zero, total-shift, total-pick}
-use Rattle.network.proofs.Answers.{and-false, eqb-sym, bit-le}
+use Rattle.network.proofs.Answers.{eqb-sym, bit-le}
 
 -- ---- a symbol in a stretch of symbols
 

@@ -50,7 +50,7 @@ pub record Provisioned (N : Network) (F : Figures) : Type 0 where
   -- H3, load: what enters a node is at least its own sensor's load and the loads that left the links to it
   pub rateEnters : (v : ℕ) → v < N .nodes → F .ownRate v + total (λ w. bit (feeds N w v) * F .rate w) (N .nodes) ≤ F .rate v
   pub burstEnters : (v : ℕ) → v < N .nodes → F .ownBurst v + total (λ w. bit (feeds N w v) * burstAfter F w) (N .nodes) ≤ F .burst v
-  -- H4, delay: at least β / m rounded up, plus T, here without the division; where m = 0, so nothing is ever sent, β = 0
+  -- H4, delay: at least β / m rounded up, plus T, here without the division. Where m = 0 nothing is ever sent, and this makes β = 0.
   pub delayCovers : (v : ℕ) → Linked N v → F .burst v + N .holds v * F .latency v ≤ N .holds v * F .delay v
   -- the delay of a route is at least that of its first link and that of the route from there
   pub routeCovers : (v : ℕ) → Linked N v → F .delay v + F .route (N .next v) ≤ F .route v
