@@ -1,0 +1,17 @@
+-- `settings::odds::none_with_some` meets its contract. Assumes nothing.
+use borrow.Author.Tests.{eq-eqb, ne-eqb}
+use Rattle.settings.proofs.odds.none_with_some.Statement.{statement}
+use Rattle.settings.proofs.odds.none_with_some.Tie as tie
+use Rattle.settings.proofs.odds.none_with_some.Reads as reads
+use Rattle.settings.proofs.odds.none_with_some.Lts as lts
+
+-- src/odds.rt:67:9
+returns : tie.Need-returns
+returns c = simp (eq-eqb _ _ (c .if1 .taken))
+
+-- src/odds.rt:63:1
+returns-2 : tie.Need-returns-2
+returns-2 c = simp (ne-eqb _ _ (c .if1 .left))
+
+pub none-with-some-spec : {M : Type 1} → statement M
+none-with-some-spec = tie.close (tie.spec returns returns-2)

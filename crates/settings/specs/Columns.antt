@@ -1,0 +1,64 @@
+-- The twelve columns (document 01, 'Rows of settings'). Assumes nothing: these are definitions.
+use Prim.Native.Nat.{ℕ}
+use Prim.Native.String.{String}
+use mathlib.Core.Bool.{Bool, true, false, _&&_}
+use mathlib.Core.List.{List, [], _∷_, _++_}
+use lib.Dec.{leb, eqb}
+use lib.ListN.{getD}
+use Rattle.decimal.specs.Ascii.{ascii}
+
+-- a column: its name, and the lowest and the highest value in its range
+pub record Column : Type 0 where
+  pub name : String
+  pub lowest : ℕ
+  pub highest : ℕ
+
+abbrev pub column : String → ℕ → ℕ → Column
+column n l h = record { name = n; lowest = l; highest = h }
+
+-- "Ranges: BO and SO 0 to 14, H 0 to 12, NR and NE 0 to 7, OWN 0 or 1, SINK 0 to 12, BURST 1 to 255, RATE 1 to 4095, HEAD 5 to 126,
+-- DATA 1 to 122, ACK 0 or 1."
+unfoldable pub table : List Column
+table =
+    column "BO" 0 14
+    ∷ column "SO" 0 14
+    ∷ column "H" 0 12
+    ∷ column "NR" 0 7
+    ∷ column "NE" 0 7
+    ∷ column "OWN" 0 1
+    ∷ column "SINK" 0 12
+    ∷ column "BURST" 1 255
+    ∷ column "RATE" 1 4095
+    ∷ column "HEAD" 5 126
+    ∷ column "DATA" 1 122
+    ∷ column "ACK" 0 1
+    ∷ []
+
+-- the column behind the first k
+unfoldable pub columnAt : ℕ → Column
+columnAt k = getD table k (column "" 0 0)
+
+-- a value is in the column's range
+abbrev pub within : Column → ℕ → Bool
+within c v = leb (c .lowest) v && leb v (c .highest)
+
+-- the names of columns, one space between
+unfoldable pub names : List Column → List ℕ
+names [] = []
+names (c ∷ []) = ascii (c .name)
+names (c ∷ d ∷ ds) = ascii (c .name) ++ 32 ∷ names (d ∷ ds)
+
+-- "BO SO H NR NE OWN SINK BURST RATE HEAD DATA ACK"
+unfoldable pub nameLine : List ℕ
+nameLine = names table
+
+-- two texts are the same, byte by byte
+unfoldable pub same : List ℕ → List ℕ → Bool
+same [] [] = true
+same [] (c ∷ cs) = false
+same (b ∷ bs) [] = false
+same (b ∷ bs) (c ∷ cs) = eqb b c && same bs cs
+
+-- a line, without its LF, is the name line
+unfoldable pub isNameLine : List ℕ → Bool
+isNameLine line = same line nameLine

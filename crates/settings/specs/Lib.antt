@@ -1,0 +1,11 @@
+-- What a reader must believe of rows of settings, in reading order. Assumes nothing.
+-- lines of a text, values of a line
+pub mod Text
+-- the twelve columns, their names and ranges
+pub mod Columns
+-- number and place of each refusal
+pub mod Refusals
+-- conditions checked in order
+pub mod Conditions
+-- a row: values, conditions 1 to 4, the answer
+pub mod Rows

@@ -1,0 +1,42 @@
+-- Lines of a text and values of a line (document 01, 'Rows of settings'). Assumes nothing: these are definitions.
+use Prim.Native.Nat.{ℕ, _+_, _-_, min}
+use mathlib.Core.Bool.{Bool, true, false, cond, _&&_}
+use mathlib.Core.List.{List, [], _∷_}
+use lib.Dec.{leb, eqb}
+use lib.ListN.{length, take, drop}
+use Rattle.settings.specs.declared.text.Cursor.{Cursor}
+use Rattle.settings.specs.declared.text.Line.{Line}
+use Rattle.settings.specs.declared.text.Line.the-variants.{Found, Nothing}
+
+-- pieces of bytes with one byte more in front: it ends a piece that is empty so far, or stands first in the first piece
+unfoldable pub before : Bool → ℕ → List (List ℕ) → List (List ℕ)
+before true b ps = [] ∷ ps
+before false b [] = (b ∷ []) ∷ []
+before false b (p ∷ ps) = (b ∷ p) ∷ ps
+
+-- bytes cut at each byte that is `at`; `rest` is what an empty rest counts as
+unfoldable pub pieces : ℕ → List (List ℕ) → List ℕ → List (List ℕ)
+pieces at rest [] = rest
+pieces at rest (b ∷ bs) = before (eqb b at) b (pieces at rest bs)
+
+-- "one space between": the values of a line are the runs of bytes between single spaces. So n spaces part n + 1 values, of which
+-- some may be empty.
+unfoldable pub fields : List ℕ → List (List ℕ)
+fields line = pieces 32 ([] ∷ []) line
+
+-- "A line ends with LF; the last may lack it"; "an empty rest after an LF is no row"
+unfoldable pub lines : List ℕ → List (List ℕ)
+lines text = pieces 10 [] text
+
+-- what stands at a position of a text of that size, from the lines of the rest
+unfoldable pub firstLine : List (List ℕ) → ℕ → ℕ → Line
+firstLine [] at size = Nothing
+firstLine (l ∷ ls) at size = Found at (at + length l) (record { at = min (at + length l + 1) size })
+
+-- the line at a position of a text, and the position behind it and its LF
+unfoldable pub lineAt : List ℕ → ℕ → Line
+lineAt text at = firstLine (lines (drop at text)) at (length text)
+
+-- the bytes from start up to, not including, end; none where the text has no such part
+unfoldable pub partOf : List ℕ → ℕ → ℕ → List ℕ
+partOf text start end = cond (leb start end && leb end (length text)) (take (end - start) (drop start text)) []

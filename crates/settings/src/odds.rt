@@ -1,0 +1,107 @@
+// Values at odds with each other: number 4 of document 01's table.
+ghost use mathlib.Core.Path.{_≡_};
+ghost use mathlib.Core.Bool.{_&&_};
+ghost use Prim.Native.Nat.{_+_};
+ghost use lib.Dec.{ltb, eqb};
+ghost use Rattle.settings.specs.declared.refusal.Verdict.the-variants.{Kept, Broken};
+ghost use Rattle.settings.specs.declared.refusal.Refusal.the-variants.{AtOdds};
+ghost use Rattle.settings.specs.Conditions.{firstBroken};
+ghost use Rattle.settings.specs.Rows.{atOdds};
+use crate::refusal::Conflict;
+use crate::refusal::Refusal;
+use crate::refusal::Verdict;
+use crate::row::Settings;
+
+// The most octets that a frame has.
+const LONGEST_FRAME: u64 = 127;
+
+pub(crate) fn agree(s: Settings) -> Verdict
+    ensures { λ r. ⌜ r ≡ firstBroken Broken Kept (atOdds s) ⌝ }
+{
+    if s.bo < s.so {
+        return conflict(Conflict::Orders { so: s.so, bo: s.bo });
+    }
+    if none_with_some(s.nr, s.h) {
+        return conflict(Conflict::Routers { nr: s.nr, h: s.h });
+    }
+    if some_with_none(s.nr, s.h) {
+        return conflict(Conflict::Routers { nr: s.nr, h: s.h });
+    }
+    if both_none(s.ne, s.own) {
+        return conflict(Conflict::Sensors {
+            ne: s.ne,
+            own: s.own,
+        });
+    }
+    if s.h < s.sink {
+        return conflict(Conflict::SinkDepth {
+            sink: s.sink,
+            h: s.h,
+        });
+    }
+    if some_below_two(s.sink, s.nr) {
+        return conflict(Conflict::SinkBranches {
+            sink: s.sink,
+            nr: s.nr,
+        });
+    }
+    if too_long(s.head, s.payload) {
+        return conflict(Conflict::FrameLength {
+            head: s.head,
+            payload: s.payload,
+        });
+    }
+    Verdict::Kept
+}
+
+fn conflict(c: Conflict) -> Verdict
+    ensures { λ r. ⌜ r ≡ Broken (AtOdds c) ⌝ }
+{
+    Verdict::Broken(Refusal::AtOdds(c))
+}
+
+fn none_with_some(a: u64, b: u64) -> bool
+    ensures { λ r. ⌜ r ≡ (eqb a 0 && ltb 0 b) ⌝ }
+{
+    if a == 0 {
+        return 0 < b;
+    }
+    false
+}
+
+fn some_with_none(a: u64, b: u64) -> bool
+    ensures { λ r. ⌜ r ≡ (ltb 0 a && eqb b 0) ⌝ }
+{
+    if 0 < a {
+        return b == 0;
+    }
+    false
+}
+
+fn both_none(a: u64, b: u64) -> bool
+    ensures { λ r. ⌜ r ≡ (eqb a 0 && eqb b 0) ⌝ }
+{
+    if a == 0 {
+        return b == 0;
+    }
+    false
+}
+
+fn some_below_two(a: u64, b: u64) -> bool
+    ensures { λ r. ⌜ r ≡ (ltb 0 a && ltb b 2) ⌝ }
+{
+    if 0 < a {
+        return b < 2;
+    }
+    false
+}
+
+// The sum is not made: it might not fit.
+fn too_long(head: u64, payload: u64) -> bool
+    ensures { λ r. ⌜ r ≡ ltb 127 (head + payload) ⌝ }
+{
+    if LONGEST_FRAME < head {
+        return true;
+    }
+    LONGEST_FRAME - head < payload
+}

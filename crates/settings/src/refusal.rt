@@ -1,0 +1,85 @@
+// Refusals 1 to 4 of document 01's table.
+ghost use mathlib.Core.Path.{_≡_};
+ghost use Rattle.settings.specs.Refusals.{numberOf, placeOf, conflictPlace};
+
+// Why a row is refused. Columns count from 1.
+pub enum Refusal {
+    // 1: the name line differs or is missing.
+    Names,
+    // 2: the value of a column is unreadable or missing; column 13 is text after the last.
+    Unreadable { column: u32 },
+    // 3: the value of a column is outside its range.
+    OutOfRange { column: u32, value: u64 },
+    // 4: values at odds with each other.
+    AtOdds(Conflict),
+}
+
+// Which values are at odds with each other, and what they are.
+pub enum Conflict {
+    // SO > BO.
+    Orders { so: u64, bo: u64 },
+    // NR = 0 with H > 0, or NR > 0 with H = 0.
+    Routers { nr: u64, h: u64 },
+    // NE = OWN = 0.
+    Sensors { ne: u64, own: u64 },
+    // SINK > H.
+    SinkDepth { sink: u64, h: u64 },
+    // SINK > 0 with NR < 2.
+    SinkBranches { sink: u64, nr: u64 },
+    // HEAD + DATA > 127.
+    FrameLength { head: u64, payload: u64 },
+}
+
+impl Refusal {
+    // Document 01's number.
+    pub fn number(self) -> u32
+        ensures { λ r. ⌜ r ≡ numberOf self ⌝ }
+    {
+        match self {
+            Refusal::Names => 1,
+            Refusal::Unreadable { column: _ } => 2,
+            Refusal::OutOfRange {
+                column: _,
+                value: _,
+            } => 3,
+            Refusal::AtOdds(_) => 4,
+        }
+    }
+
+    // Document 01's place.
+    pub fn place(self) -> u32
+        ensures { λ r. ⌜ r ≡ placeOf self ⌝ }
+    {
+        match self {
+            Refusal::Names => 0,
+            Refusal::Unreadable { column } => column,
+            Refusal::OutOfRange { column, value: _ } => column,
+            Refusal::AtOdds(conflict) => conflict.place(),
+        }
+    }
+}
+
+impl Conflict {
+    // The column that document 01 names for it.
+    pub fn place(self) -> u32
+        ensures { λ r. ⌜ r ≡ conflictPlace self ⌝ }
+    {
+        match self {
+            Conflict::Orders { so: _, bo: _ } => 2,
+            Conflict::Routers { nr: _, h: _ } => 4,
+            Conflict::Sensors { ne: _, own: _ } => 5,
+            Conflict::SinkDepth { sink: _, h: _ } => 7,
+            Conflict::SinkBranches { sink: _, nr: _ } => 7,
+            Conflict::FrameLength {
+                head: _,
+                payload: _,
+            } => 11,
+        }
+    }
+}
+
+// The first broken condition of some that were checked, or none.
+pub enum Verdict {
+    Kept,
+    Broken(Refusal),
+}
