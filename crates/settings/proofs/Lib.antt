@@ -17,3 +17,15 @@ pub mod Ranges
 pub mod Taking
 -- what a row is, by the verdicts on its conditions
 pub mod RowCases
+-- conditions of which none is broken
+pub mod Unbroken
+-- lists of twelve numbers
+pub mod Twelve
+-- numbers 3 and 4 as propositions
+pub mod Checks
+-- a row's text from its values
+pub mod OneText
+-- the laws of specs/Laws
+pub mod LawsHold
+-- document 01's examples
+pub mod ExamplesHold

@@ -1,5 +1,6 @@
 -- Conditions that are checked in order. Assumes nothing: these are definitions.
-use mathlib.Core.Bool.{Bool, cond}
+use mathlib.Core.Path.{_≡_}
+use mathlib.Core.Bool.{Bool, false, cond}
 use mathlib.Core.List.{List, [], _∷_}
 
 -- a condition: whether it is broken, and the refusal that it then has
@@ -15,3 +16,8 @@ condition b r = record { broken = b; refusal = r }
 unfoldable pub firstBroken : {R A : Type 0} → (R → A) → A → List (Condition R) → A
 firstBroken refused kept [] = kept
 firstBroken refused kept (c ∷ cs) = cond (c .broken) (refused (c .refusal)) (firstBroken refused kept cs)
+
+-- no condition of a list is broken
+abbrev pub Unbroken : {R : Type 0} → List (Condition R) → Type 0
+Unbroken [] = Unit
+Unbroken (c ∷ cs) = (c .broken ≡ false) × Unbroken cs

@@ -9,3 +9,7 @@ pub mod Refusals
 pub mod Conditions
 -- a row: values, conditions 1 to 4, the answer
 pub mod Rows
+-- what holds of rows and lines, for the layers above
+pub mod Laws
+-- document 01's examples and edge cases, computed in one table
+pub mod Examples
