@@ -47,6 +47,7 @@ fn is_shaped(s: &[u8]) -> bool
     s[0] != 48
 }
 
+// An ASCII digit, 0 to 9.
 fn is_digit(b: u8) -> bool
     ensures { λ r. ⌜ r ≡ digit b ⌝ }
 {
@@ -56,6 +57,7 @@ fn is_digit(b: u8) -> bool
     b <= 57
 }
 
+// A byte as a number.
 fn wide(b: u8) -> u64
     ensures { λ r. ⌜ (r ≡ b) × (r < 256) ⌝ }
 {

@@ -28,6 +28,7 @@ const RANGES: [Range; 12] = [
     Range(0, 1), // ACK
 ];
 
+// The first value outside its column's range, if any is.
 pub(crate) fn in_range(numbers: [u64; 12]) -> Verdict
     requires { ⌜ length numbers ≡ 12 ⌝ }
     ensures { λ r. ⌜ r ≡ firstBroken Broken Kept (ranged 1 table numbers) ⌝ }

@@ -15,6 +15,7 @@ use crate::row::Settings;
 // The most octets that a frame has.
 const LONGEST_FRAME: u64 = 127;
 
+// The first values at odds, in document 01's order, if any are.
 pub(crate) fn agree(s: Settings) -> Verdict
     ensures { λ r. ⌜ r ≡ firstBroken Broken Kept (atOdds s) ⌝ }
 {
@@ -54,12 +55,14 @@ pub(crate) fn agree(s: Settings) -> Verdict
     Verdict::Kept
 }
 
+// The refusal of values at odds.
 fn conflict(c: Conflict) -> Verdict
     ensures { λ r. ⌜ r ≡ Broken (AtOdds c) ⌝ }
 {
     Verdict::Broken(Refusal::AtOdds(c))
 }
 
+// a is 0 and b is not.
 fn none_with_some(a: u64, b: u64) -> bool
     ensures { λ r. ⌜ r ≡ (eqb a 0 && ltb 0 b) ⌝ }
 {
@@ -69,6 +72,7 @@ fn none_with_some(a: u64, b: u64) -> bool
     false
 }
 
+// b is 0 and a is not.
 fn some_with_none(a: u64, b: u64) -> bool
     ensures { λ r. ⌜ r ≡ (ltb 0 a && eqb b 0) ⌝ }
 {
@@ -78,6 +82,7 @@ fn some_with_none(a: u64, b: u64) -> bool
     false
 }
 
+// Both are 0.
 fn both_none(a: u64, b: u64) -> bool
     ensures { λ r. ⌜ r ≡ (eqb a 0 && eqb b 0) ⌝ }
 {
@@ -87,6 +92,7 @@ fn both_none(a: u64, b: u64) -> bool
     false
 }
 
+// a is not 0, and b is 0 or 1.
 fn some_below_two(a: u64, b: u64) -> bool
     ensures { λ r. ⌜ r ≡ (ltb 0 a && ltb b 2) ⌝ }
 {
@@ -96,7 +102,7 @@ fn some_below_two(a: u64, b: u64) -> bool
     false
 }
 
-// The sum is not made: it might not fit.
+// The sum passes 127. It is not made, since it might not fit.
 fn too_long(head: u64, payload: u64) -> bool
     ensures { λ r. ⌜ r ≡ ltb 127 (head + payload) ⌝ }
 {

@@ -69,6 +69,7 @@ pub fn read_named_row(names: &[u8], row: &[u8]) -> Row
     Row::Refused(Refusal::Names)
 }
 
+// The values by their columns.
 fn settings_of(v: [u64; 12]) -> Settings
     ensures { λ r. ⌜ r ≡ settingsOf v ⌝ }
 {

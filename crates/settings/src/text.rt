@@ -4,7 +4,7 @@ ghost use Rattle.settings.specs.Text.{lineAt, partOf};
 
 const LF: u8 = 10;
 
-// A position in a text: where the next line starts.
+// A position in a text, where the next line starts: 0 for the first.
 pub struct Cursor {
     pub at: usize,
 }
@@ -19,15 +19,6 @@ pub enum Line {
     },
     // Nothing: the text ended.
     Nothing,
-}
-
-impl Cursor {
-    // The start of a text.
-    pub fn start() -> Cursor
-        ensures { λ r. ⌜ r .at ≡ 0 ⌝ }
-    {
-        Cursor { at: 0 }
-    }
 }
 
 // The line at a cursor, of any text and any cursor.

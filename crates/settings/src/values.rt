@@ -19,6 +19,7 @@ pub struct Values {
     pub verdict: Verdict,
 }
 
+// The values of a row. A value is the run of bytes between single spaces.
 pub(crate) fn read_values(row: &[u8]) -> Values
     ensures { λ r. ⌜ r .verdict ≡ firstBroken Broken Kept (written 1 table (fields (now (row .entry)))) ⌝ }
     ensures { λ r. ⌜ (r .verdict ≡ Kept → r .numbers ≡ valuesIn (now (row .entry))) ⌝ }

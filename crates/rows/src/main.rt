@@ -1,0 +1,151 @@
+// Runs the compiled functions of settings on texts at the edges of 'Rows of settings' and writes what they answer. The file `stdout`
+// beside src/ has what document 01 asks, worked out by another implementation; the check compares the two.
+use libc::STDIN_FILENO;
+use libc::STDOUT_FILENO;
+use settings::refusal::Refusal;
+use settings::row::Row;
+use settings::row::Settings;
+use settings::row::names_match;
+use settings::row::read_named_row;
+use settings::row::read_row;
+use settings::text::Cursor;
+use settings::text::Line;
+use settings::text::next_line;
+use settings::text::part;
+
+fn main() {
+    texts();
+    named_rows();
+    parts();
+    // The text of `stdin`, with a row for each end of each range and for each way to break a row.
+    let mut space = io::large_buffer();
+    let n = io::read_full(STDIN_FILENO, &mut space);
+    through(&space[..n]);
+}
+
+// Texts whose name line is missing, differs or stands alone.
+fn texts() {
+    through(b"");
+    through(b"\n");
+    through(b"BO SO H NR NE OWN SINK BURST RATE HEAD DATA ACK");
+    through(b"BO SO H NR NE OWN SINK BURST RATE HEAD DATA ACK\n");
+    through(b"BO SO H NR NE OWN SINK BURST RATE HEAD DATA ACK\r\n8 4 1 2 1 0 0 1 1 19 7 0\n");
+    through(b"BO SO H NR NE OWN SINK BURST RATE HEAD DATA ACK \n8 4 1 2 1 0 0 1 1 19 7 0\n");
+    through(b" BO SO H NR NE OWN SINK BURST RATE HEAD DATA ACK\n8 4 1 2 1 0 0 1 1 19 7 0\n");
+    through(b"BO SO H NR NE OWN SINK BURST RATE HEAD DATA\n8 4 1 2 1 0 0 1 1 19 7\n");
+    through(b"bo so h nr ne own sink burst rate head data ack\n8 4 1 2 1 0 0 1 1 19 7 0\n");
+    through(b"\nBO SO H NR NE OWN SINK BURST RATE HEAD DATA ACK\n8 4 1 2 1 0 0 1 1 19 7 0\n");
+    through(b"BO SO H NR NE OWN SINK BURST RATE HEAD DATA ACK\n\n");
+    through(b"BO SO H NR NE OWN SINK BURST RATE HEAD DATA ACK\n\n\n8 4 1 2 1 0 0 1 1 19 7 0");
+    end();
+}
+
+// A row under a name line: the names come first.
+fn named_rows() {
+    answer(read_named_row(b"", b""));
+    answer(read_named_row(b"BO", b"8 4 1 2 1 0 0 1 1 19 7 0"));
+    answer(read_named_row(
+        b"BO SO H NR NE OWN SINK BURST RATE HEAD DATA ACK\n",
+        b"8 4 1 2 1 0 0 1 1 19 7 0",
+    ));
+    answer(read_named_row(
+        b"BO SO H NR NE OWN SINK BURST RATE HEAD DATA ACK",
+        b"8 4 1 2 1 0 0 1 1 19 7 0",
+    ));
+    answer(read_named_row(
+        b"BO SO H NR NE OWN SINK BURST RATE HEAD DATA ACK",
+        b"8 4 1 2 1 0 0 1 1 19 7 0\n",
+    ));
+    answer(read_named_row(b"BO SO H NR NE OWN SINK BURST RATE HEAD DATA ACK", b""));
+}
+
+// Parts that a text has and has not.
+fn parts() {
+    word(part(b"abcdef", 1, 3));
+    end();
+    word(part(b"abcdef", 0, 6));
+    end();
+    word(part(b"abcdef", 3, 1));
+    word(part(b"abcdef", 0, 7));
+    word(part(b"abcdef", 6, 6));
+    end();
+}
+
+// A text's name line and rows.
+fn through(text: &[u8]) {
+    let line = next_line(text, Cursor { at: 0 });
+    let Line::Found { start, end, next } = line else {
+        refused(Refusal::Names);
+        return;
+    };
+    if names_match(part(text, start, end)) {
+        rows(text, next);
+    } else {
+        refused(Refusal::Names);
+    }
+}
+
+// Where each row of a text starts and ends, and what it is.
+fn rows(text: &[u8], first: Cursor) {
+    let mut cursor = first;
+    loop {
+        let line = next_line(text, cursor);
+        let Line::Found { start, end, next } = line else {
+            return;
+        };
+        row_line(text, start, end);
+        cursor = next;
+    }
+}
+
+fn row_line(text: &[u8], start: usize, end: usize) {
+    word(b"row");
+    number(start as u64);
+    number(end as u64);
+    word(b" ");
+    answer(read_row(part(text, start, end)));
+}
+
+fn answer(row: Row) {
+    match row {
+        Row::Read(settings) => read(settings),
+        Row::Refused(refusal) => refused(refusal),
+    }
+}
+
+fn refused(refusal: Refusal) {
+    word(b"R");
+    number(refusal.number() as u64);
+    number(refusal.place() as u64);
+    end();
+}
+
+fn read(s: Settings) {
+    word(b"read");
+    number(s.bo);
+    number(s.so);
+    number(s.h);
+    number(s.nr);
+    number(s.ne);
+    number(s.own);
+    number(s.sink);
+    number(s.burst);
+    number(s.rate);
+    number(s.head);
+    number(s.payload);
+    number(s.ack);
+    end();
+}
+
+fn word(text: &[u8]) {
+    io::write_all(STDOUT_FILENO, text);
+}
+
+fn number(n: u64) {
+    word(b" ");
+    io::print_decimal(STDOUT_FILENO, n);
+}
+
+fn end() {
+    word(b"\n");
+}
