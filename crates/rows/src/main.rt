@@ -2,16 +2,16 @@
 // beside src/ has what document 01 asks, worked out by another implementation; the check compares the two.
 use libc::STDIN_FILENO;
 use libc::STDOUT_FILENO;
+use lines::Cursor;
+use lines::Line;
+use lines::next_line;
+use lines::part;
 use settings::refusal::Refusal;
 use settings::row::Row;
 use settings::row::Settings;
 use settings::row::names_match;
 use settings::row::read_named_row;
 use settings::row::read_row;
-use settings::text::Cursor;
-use settings::text::Line;
-use settings::text::next_line;
-use settings::text::part;
 
 fn main() {
     texts();

@@ -1,19 +1,19 @@
 -- Conditions of numbers 2 and 3, column by column. Assumes nothing.
-use mathlib.Core.Path.{_≡_, refl, ap, sym, _∙_}
-use mathlib.Core.Bool.{Bool, true, false, not, cond, false≢true}
-use mathlib.Core.List.{List, [], _∷_, _++_, map}
-use Prim.Native.Nat.{ℕ, zero, suc, _+_, _≤_, _<_}
+use mathlib.Core.Path.{_≡_, refl}
+use mathlib.Core.Bool.{true, false, not}
+use mathlib.Core.List.{List, [], _∷_}
+use Prim.Native.Nat.{ℕ, suc, _<_}
 use native.Mathlib.Omega.{arith}
-use lib.ListN.{length, getD, take, drop, set, length-set}
-use lib.Seq.{drop-cons, take-suc-set, append-snoc}
-use Rattle.decimal.specs.Number.{readable, spelled, numberIn}
+use lib.ListN.{length, getD, drop}
+use lib.Seq.{drop-cons}
+use Rattle.decimal.specs.Number.{numberIn}
 use Rattle.decimal.specs.declared.Number.the-variants.{Value, Unreadable as None}
 use Rattle.decimal.proofs.Spelling.{number-read, number-none}
 use Rattle.settings.specs.declared.refusal.Refusal.{Refusal}
 use Rattle.settings.specs.declared.refusal.Refusal.the-variants.{Unreadable, OutOfRange}
 use Rattle.settings.specs.declared.refusal.Verdict.{Verdict}
 use Rattle.settings.specs.declared.refusal.Verdict.the-variants.{Kept, Broken}
-use Rattle.settings.specs.Columns.{Column, column, table, columnAt, within}
+use Rattle.settings.specs.Columns.{column, table, columnAt, within}
 use Rattle.settings.specs.Conditions.{Condition, condition, firstBroken}
 use Rattle.settings.specs.Rows.{written, ranged}
 

@@ -1,16 +1,16 @@
 -- Conditions of numbers 3 and 4 as propositions. Assumes nothing.
-use mathlib.Core.Path.{_≡_, refl, ap, sym, _∙_, subst}
-use mathlib.Core.Bool.{Bool, true, false, not, _&&_, and-eq-true-iff, and-true, and-false, and-comm}
-use mathlib.Core.List.{List, [], _∷_, _++_}
-use Prim.Native.Nat.{ℕ, zero, suc, _+_, _≤_, _<_}
+use mathlib.Core.Path.{_≡_, sym, _∙_, subst}
+use mathlib.Core.Bool.{false, not, _&&_, and-eq-true-iff, and-true, and-false, and-comm}
+use mathlib.Core.List.{List}
+use Prim.Native.Nat.{ℕ, _+_, _≤_, _<_}
 use native.Mathlib.Omega.{arith}
 use native.Mathlib.Decide.{decLe}
 use lib.Dec.{leb, ltb, eqb}
 use lib.ListN.{length, getD}
-use borrow.Author.Tests.{leb-true, le-leb, ltb-true, ltb-false, lt-ltb, le-ltb, eqb-true, eqb-false, eq-eqb, ne-eqb, not-false}
+use borrow.Author.Tests.{leb-true, le-leb, ltb-false, lt-ltb, le-ltb, eqb-false, eq-eqb, ne-eqb, not-false}
 use Rattle.settings.specs.declared.row.Settings.{Settings}
-use Rattle.settings.specs.Columns.{Column, column, table, within}
-use Rattle.settings.specs.Conditions.{Condition, condition, Unbroken}
+use Rattle.settings.specs.Columns.{table}
+use Rattle.settings.specs.Conditions.{Unbroken}
 use Rattle.settings.specs.Rows.{ranged, atOdds, settingsOf}
 use Rattle.settings.specs.Laws.{Checked}
 use Rattle.settings.proofs.Twelve.{elements, twelve}

@@ -2,7 +2,7 @@
 use mathlib.Core.Path.{refl}
 use Rattle.decimal.specs.Ascii.{ascii}
 use Rattle.decimal.specs.Number.{digits, zeroLed, shaped, readable, spelledAfter}
-use Rattle.settings.specs.Text.{before, pieces, fields, lines}
+use Rattle.lines.specs.Text.{before, pieces, fields}
 use Rattle.settings.specs.Columns.{table, names, nameLine, same, isNameLine}
 use Rattle.settings.specs.Refusals.{conflictPlace, numberOf, placeOf}
 use Rattle.settings.specs.Conditions.{firstBroken}
@@ -10,7 +10,7 @@ use Rattle.settings.specs.Rows.{named, written, ranged, atOdds, valuesIn
 use Rattle.settings.specs.Examples.{answered, under, asked, behind, Examples}
 
 pub examples-hold : Examples
-unfolding ascii digits zeroLed shaped readable spelledAfter before pieces fields lines table names nameLine same isNameLine conflictPlace numberOf placeOf firstBroken named written ranged atOdds valuesIn settingsOf conditions rowOf namedRow answered under asked behind
+unfolding ascii digits zeroLed shaped readable spelledAfter before pieces fields table names nameLine same isNameLine conflictPlace numberOf placeOf firstBroken named written ranged atOdds valuesIn settingsOf conditions rowOf namedRow answered under asked behind
 examples-hold = record {
   names = refl;
   emptyInput = refl;
@@ -46,9 +46,4 @@ examples-hold = record {
   frameTooLong = refl;
   frameLongest = refl;
   firstOfFour = refl;
-  noLine = refl;
-  lastLacksEnd = refl;
-  lastEnds = refl;
-  blankBetween = refl;
-  blankLast = refl;
 }

@@ -1,14 +1,10 @@
 -- Laws about the definitions of specs/. Assumes nothing.
--- bytes cut into pieces
-pub mod Cutting
 -- the first broken condition of lists that follow one another
 pub mod Answering
 -- whether two texts are equal
 pub mod Sameness
 -- sums compared without being made
 pub mod Sums
--- the line at a position
-pub mod Lines
 -- numbers 2 and 3, column by column
 pub mod Checking
 -- the code's table of ranges

@@ -1,18 +1,15 @@
 -- What a row is, by the verdicts on numbers 2, 3 and 4. Assumes nothing.
-use mathlib.Core.Path.{_≡_, refl, ap, sym, _∙_}
+use mathlib.Core.Path.{_≡_, refl, ap, _∙_}
 use mathlib.Core.Bool.{Bool, true, false, not, cond}
-use mathlib.Core.List.{List, [], _∷_, _++_, map}
+use mathlib.Core.List.{List, [], _∷_, _++_}
 use Prim.Native.Nat.{ℕ, suc, _+_}
-use native.Mathlib.Omega.{arith}
 use lib.ListN.{length, length-map}
 use Rattle.decimal.specs.Number.{readable, spelled}
 use Rattle.settings.specs.declared.refusal.Refusal.{Refusal}
 use Rattle.settings.specs.declared.refusal.Refusal.the-variants.{Names, Unreadable}
-use Rattle.settings.specs.declared.refusal.Verdict.{Verdict}
 use Rattle.settings.specs.declared.refusal.Verdict.the-variants.{Kept, Broken}
-use Rattle.settings.specs.declared.row.Row.{Row}
 use Rattle.settings.specs.declared.row.Row.the-variants.{Read, Refused}
-use Rattle.settings.specs.Text.{fields}
+use Rattle.lines.specs.Text.{fields}
 use Rattle.settings.specs.Columns.{Column, table, isNameLine}
 use Rattle.settings.specs.Conditions.{firstBroken}
 use Rattle.settings.specs.Rows.{named, written, ranged, atOdds, valuesIn, settingsOf, conditions, rowOf, namedRow}

@@ -1,7 +1,7 @@
 -- What stands after the first k values of a row were taken. Assumes nothing.
 use mathlib.Core.Path.{_≡_, refl, ap, sym, _∙_}
 use mathlib.Core.Bool.{Bool, true, false, false≢true}
-use mathlib.Core.List.{List, [], _∷_, _++_, map, append-nil}
+use mathlib.Core.List.{List, _++_, map, append-nil}
 use Prim.Native.Nat.{ℕ, suc, _+_, _-_, _≤_, _<_}
 use native.Mathlib.Omega.{arith}
 use native.Mathlib.Numerals.{add-one}
@@ -15,10 +15,10 @@ use Rattle.settings.specs.declared.refusal.Refusal.{Refusal}
 use Rattle.settings.specs.declared.refusal.Refusal.the-variants.{Unreadable}
 use Rattle.settings.specs.declared.refusal.Verdict.{Verdict}
 use Rattle.settings.specs.declared.refusal.Verdict.the-variants.{Kept, Broken}
-use Rattle.settings.specs.Text.{fields}
+use Rattle.lines.specs.Text.{fields}
 use Rattle.settings.specs.Columns.{table}
 use Rattle.settings.specs.Rows.{written, valuesIn}
-use Rattle.settings.proofs.Cutting.{fieldsFrom, fields-first, fields-step, fields-past}
+use Rattle.lines.proofs.Cutting.{fieldsFrom, fields-first, fields-step, fields-past}
 use Rattle.settings.proofs.Checking.{verdict, written-missing, written-none, written-value, written-after, written-all}
 
 -- a refusal is not the answer that all is kept

@@ -1,5 +1,5 @@
 -- Lists of conditions of which none is broken. Assumes nothing.
-use mathlib.Core.Path.{_≡_, refl, ap, sym, _∙_}
+use mathlib.Core.Path.{_≡_, refl, ap}
 use mathlib.Core.Bool.{Bool, true, false, cond, false≢true}
 use mathlib.Core.List.{List, [], _∷_, _++_}
 use Rattle.settings.specs.declared.refusal.Refusal.{Refusal}

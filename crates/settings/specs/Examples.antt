@@ -4,10 +4,8 @@ use mathlib.Core.List.{List, [], _∷_, _++_}
 use Prim.Native.Nat.{ℕ}
 use Prim.Native.String.{String}
 use Rattle.decimal.specs.Ascii.{ascii}
-use Rattle.settings.specs.declared.row.Settings.{Settings}
 use Rattle.settings.specs.declared.row.Row.{Row}
 use Rattle.settings.specs.declared.row.Row.the-variants.{Read, Refused}
-use Rattle.settings.specs.Text.{lines}
 use Rattle.settings.specs.Columns.{nameLine}
 use Rattle.settings.specs.Refusals.{numberOf, placeOf}
 use Rattle.settings.specs.Rows.{rowOf, namedRow}
@@ -74,9 +72,3 @@ pub record Examples : Type 0 where
   pub frameTooLong : asked "8 4 1 2 1 0 0 1 1 126 2 0" ≡ of 4 11
   pub frameLongest : asked "8 4 1 2 1 0 0 1 1 126 1 0" ≡ of 0 0
   pub firstOfFour : asked "4 8 1 0 0 0 2 1 1 126 2 0" ≡ of 4 2
-  -- lines: a blank one is a line, an empty rest after LF is none
-  pub noLine : lines [] ≡ []
-  pub lastLacksEnd : lines (ascii "a\nb") ≡ ascii "a" ∷ ascii "b" ∷ []
-  pub lastEnds : lines (ascii "a\nb\n") ≡ ascii "a" ∷ ascii "b" ∷ []
-  pub blankBetween : lines (ascii "a\n\nb\n") ≡ ascii "a" ∷ [] ∷ ascii "b" ∷ []
-  pub blankLast : lines (ascii "a\n\n") ≡ ascii "a" ∷ [] ∷ []

@@ -1,14 +1,11 @@
--- What holds of rows and lines, for the layers above. Assumes nothing: these are statements; proofs/LawsHold proves them.
+-- What holds of rows, for the layers above. Assumes nothing: these are statements; proofs/LawsHold proves them.
 use mathlib.Core.Path.{_≡_}
 use mathlib.Core.Logic.{_↔_}
-use mathlib.Core.List.{List, [], _∷_}
+use mathlib.Core.List.{List}
 use Prim.Native.Nat.{ℕ, _+_, _≤_, _<_}
-use lib.ListN.{length, drop}
 use Rattle.settings.specs.declared.row.Settings.{Settings}
 use Rattle.settings.specs.declared.row.Row.the-variants.{Read}
-use Rattle.settings.specs.declared.text.Cursor.{Cursor}
-use Rattle.settings.specs.declared.text.Line.the-variants.{Found, Nothing}
-use Rattle.settings.specs.Text.{fields, lines, lineAt, partOf}
+use Rattle.lines.specs.Text.{fields}
 use Rattle.settings.specs.Columns.{table}
 use Rattle.settings.specs.Conditions.{Unbroken}
 use Rattle.settings.specs.Rows.{written, valuesIn, settingsOf, conditions, rowOf}
@@ -59,21 +56,3 @@ CheckedIsRead =
 -- two different rows never give the same settings
 abbrev pub OneRowForSettings : Type 0
 OneRowForSettings = (a b : List ℕ) (s : Settings) → rowOf a ≡ Read s → rowOf b ≡ Read s → a ≡ b
-
--- a line that is found at a position of a text: the cursor moves forward and stays within the text, the line stands where it says, and
--- behind the next position stand the lines that follow it
-pub record Advances (text : List ℕ) (at start end : ℕ) (next : Cursor) : Type 0 where
-  pub here : start ≡ at
-  pub inOrder : start ≤ end
-  pub within : end ≤ length text
-  pub forward : at < next .at
-  pub nextWithin : next .at ≤ length text
-  pub first : lines (drop at text) ≡ partOf text start end ∷ lines (drop (next .at) text)
-
-abbrev pub FoundAdvances : Type 0
-FoundAdvances =
-    (text : List ℕ) (at start end : ℕ) (next : Cursor) → lineAt text at ≡ Found start end next → Advances text at start end next
-
--- where nothing is found no line is left
-abbrev pub NothingIsLeft : Type 0
-NothingIsLeft = (text : List ℕ) (at : ℕ) → lineAt text at ≡ Nothing → lines (drop at text) ≡ []

@@ -1,6 +1,4 @@
 -- What a reader must believe of rows of settings, in reading order. Assumes nothing.
--- lines of a text, values of a line
-pub mod Text
 -- the twelve columns, their names and ranges
 pub mod Columns
 -- number and place of each refusal
@@ -9,7 +7,7 @@ pub mod Refusals
 pub mod Conditions
 -- a row: values, conditions 1 to 4, the answer
 pub mod Rows
--- what holds of rows and lines, for the layers above
+-- what holds of rows, for the layers above
 pub mod Laws
 -- document 01's examples and edge cases, computed in one table
 pub mod Examples

@@ -1,7 +1,7 @@
 -- A row of settings: its values, and the conditions of numbers 1 to 4 in their order (document 01, 'Rows of settings'). Assumes
 -- nothing: these are definitions.
 use Prim.Native.Nat.{ℕ, suc, _+_}
-use mathlib.Core.Bool.{Bool, true, false, not, _&&_}
+use mathlib.Core.Bool.{true, not, _&&_}
 use mathlib.Core.List.{List, [], _∷_, _++_, map}
 use lib.Dec.{ltb, eqb}
 use lib.ListN.{getD}
@@ -12,7 +12,7 @@ use Rattle.settings.specs.declared.refusal.Conflict.the-variants.{Orders
 use Rattle.settings.specs.declared.row.Settings.{Settings}
 use Rattle.settings.specs.declared.row.Row.{Row}
 use Rattle.settings.specs.declared.row.Row.the-variants.{Read, Refused}
-use Rattle.settings.specs.Text.{fields}
+use Rattle.lines.specs.Text.{fields}
 use Rattle.settings.specs.Columns.{Column, table, within, isNameLine}
 use Rattle.settings.specs.Conditions.{Condition, condition, firstBroken}
 

@@ -3,7 +3,7 @@ ghost use mathlib.Core.Path.{_≡_};
 ghost use Prim.Native.Nat.{_+_, _≤_};
 ghost use Rattle.settings.specs.declared.refusal.Verdict.the-variants.{Kept, Broken};
 ghost use Rattle.settings.specs.declared.refusal.Refusal.the-variants.{Unreadable};
-ghost use Rattle.settings.specs.Text.{fields};
+ghost use Rattle.lines.specs.Text.{fields};
 ghost use Rattle.settings.specs.Columns.{table};
 ghost use Rattle.settings.specs.Conditions.{firstBroken};
 ghost use Rattle.settings.specs.Rows.{written, valuesIn};

@@ -6,28 +6,21 @@ use Rattle.decimal.proofs.Spelling.{shaped-one, shaped-several}
 use borrow.Author.Needs.{needs}
 use Rattle.decimal.proofs.is_shaped.Statement.{statement}
 use Rattle.decimal.proofs.is_shaped.Tie as tie
-use Rattle.decimal.proofs.is_shaped.Reads as reads
-use Rattle.decimal.proofs.is_shaped.Lts as lts
 
--- src/lib.rt:39:9
 returns : tie.Need-returns
 unfolding shaped
 returns c = simp (lt-leb _ _ (c .if1 .taken))
 
--- src/lib.rt:42:9
 returns-2 : tie.Need-returns-2
 unfolding shaped
 returns-2 c = simp (le-leb _ _ (c .before .if1 .left), lt-leb _ _ (c .if2 .taken))
 
--- src/lib.rt:45:9
 returns-3 : tie.Need-returns-3
 returns-3 c = shaped-one (c .before .before .before .args .s .now) (c .if3 .taken)
 
--- src/lib.rt:47:5
 shared-slice-read-result : tie.Need-shared-slice-read-result
 shared-slice-read-result c = search needs
 
--- src/lib.rt:35:1
 returns-4 : tie.Need-returns-4
 returns-4 c =
     let s = c .before .before .before .before .args .s .now in

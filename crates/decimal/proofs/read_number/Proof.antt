@@ -9,11 +9,6 @@ use Rattle.decimal.specs.Number.{digits, spelledAfter, spelled}
 use Rattle.decimal.proofs.Spelling.{digit-range, digits-step, spelled-step, ten-more, ten-small, shaped-length, unshaped, undigit, spells}
 use Rattle.decimal.proofs.read_number.Statement.{statement}
 use Rattle.decimal.proofs.read_number.Tie as tie
-use Rattle.decimal.proofs.read_number.Reads as reads
-use Rattle.decimal.proofs.read_number.Lts as lts
-use Rattle.decimal.proofs.is_digit.Reads as is-digit-reads
-use Rattle.decimal.proofs.is_shaped.Reads as is-shaped-reads
-use Rattle.decimal.proofs.wide.Reads as wide-reads
 
 abbrev Inv-loop : tie.InvT-loop
 Inv-loop s v₀ i₀ v i =
@@ -22,29 +17,23 @@ Inv-loop s v₀ i₀ v i =
 abbrev μ-loop : tie.MeasureT-loop
 μ-loop s v₀ i₀ v i = length s - i
 
--- src/lib.rt:19:9
 is-shaped-requires : tie.Need-is-shaped-requires Inv-loop μ-loop
 is-shaped-requires c κs = search needs
 
--- src/lib.rt:20:9
 returns : tie.Need-returns Inv-loop μ-loop
 returns c = sym (unshaped (c .before .before .before .args .s .now) (sym (c .before .is-shaped .ensures) ∙ not-true _ (c .if1 .taken)))
 
--- src/lib.rt:24:5
 loop-holds : tie.Need-loop-holds Inv-loop μ-loop
 loop-holds c =
     let e = sym (c .before .is-shaped .ensures) ∙ not-false _ (c .if1 .left) in
     (omega arith, shaped-length (c .before .before .before .args .s .now) e .1, omega arith, refl, refl)
 
--- src/lib.rt:25:22
 shared-slice-read-is-digit : tie.Need-shared-slice-read-is-digit Inv-loop μ-loop
 shared-slice-read-is-digit c = search needs
 
--- src/lib.rt:25:13
 is-digit-requires : tie.Need-is-digit-requires Inv-loop μ-loop
 is-digit-requires c κs = search needs
 
--- src/lib.rt:26:13
 returns-2 : tie.Need-returns-2 Inv-loop μ-loop
 returns-2 c =
     let s = c .before .before .before .before .before .before .before .before .args .s .now in
@@ -52,19 +41,15 @@ returns-2 c =
     let no-digit = sym (c .before .is-digit .ensures) ∙ not-true _ (c .if2 .taken) in
     sym (undigit s (l .i) (c .before .before .before .loop-test .taken) no-digit (l .inv .3))
 
--- src/lib.rt:28:13
 mul-v : tie.Need-mul-v Inv-loop μ-loop
 mul-v c = omega (arith, ten-small (c .before .before .before .before .loop .i) (omega arith))
 
--- src/lib.rt:28:28
 shared-slice-read-wide : tie.Need-shared-slice-read-wide Inv-loop μ-loop
 shared-slice-read-wide c = search needs
 
--- src/lib.rt:28:23
 wide-requires : tie.Need-wide-requires Inv-loop μ-loop
 wide-requires c κs = search needs
 
--- src/lib.rt:28:23
 sub-v : tie.Need-sub-v Inv-loop μ-loop
 sub-v c =
     let s = c .before .before .before .before .before .before .before .before .before .before .args .s .now in
@@ -72,19 +57,15 @@ sub-v c =
     let d = sym (c .before .before .before .is-digit .ensures) ∙ not-false _ (c .before .before .if2 .left) in
     omega (arith, digit-range (getD s i 0) d, c .wide .ensures .0)
 
--- src/lib.rt:28:13
 add-v : tie.Need-add-v Inv-loop μ-loop
 add-v c = omega (arith, c .wide .ensures .1, ten-small (c .before .before .before .before .before .before .loop .i) (omega arith))
 
--- src/lib.rt:29:9
 add-i : tie.Need-add-i Inv-loop μ-loop
 add-i c = search needs
 
--- src/lib.rt:24:5
 loop-less : tie.Need-loop-less Inv-loop μ-loop
 loop-less c = search needs
 
--- src/lib.rt:24:5
 loop-again : tie.Need-loop-again Inv-loop μ-loop
 loop-again c =
     let l = c .before .before .before .before .before .before .loop in
@@ -98,7 +79,6 @@ loop-again c =
       rw (c .wide .ensures .0) (sym (spelled-step s (l .i) (l .v) below) ∙ l .inv .4),
     )
 
--- src/lib.rt:16:1
 returns-3 : tie.Need-returns-3 Inv-loop μ-loop
 unfolding digits spelledAfter
 returns-3 c =

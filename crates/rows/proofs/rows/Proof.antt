@@ -4,13 +4,9 @@ use Prim.Native.Nat.{_-_}
 use native.Mathlib.Omega.{arith}
 use borrow.Author.Needs.{needs}
 use lib.ListN.{length}
-use Rattle.settings.proofs.LawsHold.{found-advances}
+use Rattle.lines.proofs.LawsHold.{found-advances}
 use Rattle.rows.proofs.rows.Statement.{statement}
 use Rattle.rows.proofs.rows.Tie as tie
-use Rattle.rows.proofs.rows.Reads as reads
-use Rattle.rows.proofs.rows.Lts as lts
-use Rattle.rows.proofs.row_line.Reads as row-line-reads
-use Rattle.settings.proofs.text.next_line.Reads as next-line-reads
 
 abbrev Inv-loop : tie.InvT-loop
 Inv-loop text cursor₀ cursor = Unit
@@ -18,31 +14,24 @@ Inv-loop text cursor₀ cursor = Unit
 abbrev μ-loop : tie.MeasureT-loop
 μ-loop text cursor₀ cursor = length text - cursor .at
 
--- src/main.rt:91:5
 loop-holds : tie.Need-loop-holds Inv-loop μ-loop
 loop-holds c = search needs
 
--- src/main.rt:92:13
 next-line-requires : tie.Need-next-line-requires Inv-loop μ-loop
 next-line-requires c κs = search needs
 
--- src/main.rt:93:27
 enum-known-line : tie.Need-enum-known-line Inv-loop μ-loop
 enum-known-line c = search needs
 
--- src/main.rt:94:13
 enum-told : tie.Need-enum-told Inv-loop μ-loop
 enum-told c = search needs
 
--- src/main.rt:94:13
 returns : tie.Need-returns Inv-loop μ-loop
 returns c = search needs
 
--- src/main.rt:96:9
 row-line-requires : tie.Need-row-line-requires Inv-loop μ-loop
 row-line-requires c κs = search needs
 
--- src/main.rt:91:5
 loop-less : tie.Need-loop-less Inv-loop μ-loop
 loop-less c =
     let l = c .before .before in
@@ -51,7 +40,6 @@ loop-less c =
     let a = found-advances text (n .before .loop .cursor .at) _ _ _ (sym (n .next-line .ensures) ∙ l .line .given .1) in
     omega (arith, a .forward, a .nextWithin)
 
--- src/main.rt:91:5
 loop-again : tie.Need-loop-again Inv-loop μ-loop
 loop-again c = search needs
 

@@ -4,23 +4,17 @@ use Rattle.settings.specs.Columns.{table}
 use borrow.Author.Needs.{needs}
 use Rattle.settings.proofs.columns.fits.Statement.{statement}
 use Rattle.settings.proofs.columns.fits.Tie as tie
-use Rattle.settings.proofs.columns.fits.Reads as reads
-use Rattle.settings.proofs.columns.fits.Lts as lts
 
--- src/columns.rt:90:17
 mul-range : tie.Need-mul-range
 mul-range c = search needs
 
--- src/columns.rt:90:17
 array-copy-out-range : tie.Need-array-copy-out-range
 array-copy-out-range c = search needs
 
--- src/columns.rt:92:9
 returns : tie.Need-returns
 unfolding table rangeOf rangeAt
 returns c = let a = c .before .before .before .args in below-range (a .k) (a .value) (c .if1 .taken)
 
--- src/columns.rt:86:1
 returns-2 : tie.Need-returns-2
 unfolding table rangeOf rangeAt
 returns-2 c = let a = c .before .before .before .before .args in above-lowest (a .k) (a .value) (c .before .if1 .left)

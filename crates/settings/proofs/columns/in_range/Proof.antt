@@ -11,10 +11,6 @@ use Prim.Native.Nat.{suc, _-_, _≤_}
 use mathlib.Core.Path.{_≡_, refl, sym, _∙_}
 use Rattle.settings.proofs.columns.in_range.Statement.{statement}
 use Rattle.settings.proofs.columns.in_range.Tie as tie
-use Rattle.settings.proofs.columns.in_range.Reads as reads
-use Rattle.settings.proofs.columns.in_range.Lts as lts
-use Rattle.settings.proofs.columns.fits.Reads as fits-reads
-use Rattle.settings.proofs.columns.outside.Reads as outside-reads
 
 abbrev Inv-loop : tie.InvT-loop
 Inv-loop numbers k₀ k = (k ≤ 12) × (verdict (ranged 1 table numbers) ≡ verdict (ranged (suc k) (drop k table) (drop k numbers)))
@@ -22,27 +18,21 @@ Inv-loop numbers k₀ k = (k ≤ 12) × (verdict (ranged 1 table numbers) ≡ ve
 abbrev μ-loop : tie.MeasureT-loop
 μ-loop numbers k₀ k = 12 - k
 
--- src/columns.rt:75:5
 loop-holds : tie.Need-loop-holds Inv-loop μ-loop
 loop-holds c = (omega arith, refl)
 
--- src/columns.rt:76:17
 mul-v : tie.Need-mul-v Inv-loop μ-loop
 mul-v c = search needs
 
--- src/columns.rt:76:17
 array-read-v : tie.Need-array-read-v Inv-loop μ-loop
 array-read-v c = search needs
 
--- src/columns.rt:77:13
 fits-requires : tie.Need-fits-requires Inv-loop μ-loop
 fits-requires c κs = search needs
 
--- src/columns.rt:78:13
 outside-requires : tie.Need-outside-requires Inv-loop μ-loop
 outside-requires c κs = search needs
 
--- src/columns.rt:78:13
 returns : tie.Need-returns Inv-loop μ-loop
 returns c =
     let l = c .before .before .before .before .loop in
@@ -51,15 +41,12 @@ returns c =
     rw (c .outside .ensures, l .inv .1, add-one)
     (sym (ranged-out (l .k) (c .before .before .before .loop-test .taken) vs (c .before .before .before .before .before .pre) e))
 
--- src/columns.rt:80:9
 add-k : tie.Need-add-k Inv-loop μ-loop
 add-k c = search needs
 
--- src/columns.rt:75:5
 loop-less : tie.Need-loop-less Inv-loop μ-loop
 loop-less c = search needs
 
--- src/columns.rt:75:5
 loop-again : tie.Need-loop-again Inv-loop μ-loop
 loop-again c =
     let l = c .before .before .before .loop in
@@ -67,7 +54,6 @@ loop-again c =
     let e = sym (c .before .fits2 .ensures) ∙ not-false _ (c .if1 .left) in
     (omega arith, rw add-one (l .inv .1 ∙ ranged-in (l .k) (c .before .before .loop-test .taken) vs (c .before .before .before .before .pre) e))
 
--- src/columns.rt:70:1
 returns-2 : tie.Need-returns-2 Inv-loop μ-loop
 returns-2 c =
     let l = c .before .loop in

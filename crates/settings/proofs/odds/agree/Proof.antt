@@ -6,33 +6,20 @@ use borrow.Author.Tests.{lt-ltb, le-ltb}
 use borrow.Author.Needs.{needs}
 use Rattle.settings.proofs.odds.agree.Statement.{statement}
 use Rattle.settings.proofs.odds.agree.Tie as tie
-use Rattle.settings.proofs.odds.agree.Reads as reads
-use Rattle.settings.proofs.odds.agree.Lts as lts
-use Rattle.settings.proofs.odds.both_none.Reads as both-none-reads
-use Rattle.settings.proofs.odds.conflict.Reads as conflict-reads
-use Rattle.settings.proofs.odds.none_with_some.Reads as none-with-some-reads
-use Rattle.settings.proofs.odds.some_below_two.Reads as some-below-two-reads
-use Rattle.settings.proofs.odds.some_with_none.Reads as some-with-none-reads
-use Rattle.settings.proofs.odds.too_long.Reads as too-long-reads
 
--- src/odds.rt:22:9
 conflict-requires : tie.Need-conflict-requires
 conflict-requires c κs = search needs
 
--- src/odds.rt:22:9
 returns : tie.Need-returns
 unfolding firstBroken atOdds
 returns c = rw (c .conflict .ensures) (simp (lt-ltb _ _ (c .before .if1 .taken)))
 
--- src/odds.rt:24:8
 none-with-some-requires : tie.Need-none-with-some-requires
 none-with-some-requires c κs = search needs
 
--- src/odds.rt:25:9
 conflict-requires-2 : tie.Need-conflict-requires-2
 conflict-requires-2 c κs = search needs
 
--- src/odds.rt:25:9
 returns-2 : tie.Need-returns-2
 unfolding firstBroken atOdds
 returns-2 c =
@@ -41,15 +28,12 @@ returns-2 c =
     let n1 = e1 .before in
     rw (c .conflict2 .ensures) (simp (le-ltb _ _ (e1 .if1 .left), sym (n2 .none-with-some .ensures) ∙ c .before .if2 .taken))
 
--- src/odds.rt:27:8
 some-with-none-requires : tie.Need-some-with-none-requires
 some-with-none-requires c κs = search needs
 
--- src/odds.rt:28:9
 conflict-requires-3 : tie.Need-conflict-requires-3
 conflict-requires-3 c κs = search needs
 
--- src/odds.rt:28:9
 returns-3 : tie.Need-returns-3
 unfolding firstBroken atOdds
 returns-3 c =
@@ -60,15 +44,12 @@ returns-3 c =
     let n1 = e1 .before in
     rw (c .conflict3 .ensures) (simp (le-ltb _ _ (e1 .if1 .left), sym (n2 .none-with-some .ensures) ∙ e2 .if2 .left, sym (n3 .some-with-none .ensures) ∙ c .before .if3 .taken))
 
--- src/odds.rt:30:8
 both-none-requires : tie.Need-both-none-requires
 both-none-requires c κs = search needs
 
--- src/odds.rt:31:9
 conflict-requires-4 : tie.Need-conflict-requires-4
 conflict-requires-4 c κs = search needs
 
--- src/odds.rt:31:9
 returns-4 : tie.Need-returns-4
 unfolding firstBroken atOdds
 returns-4 c =
@@ -81,11 +62,9 @@ returns-4 c =
     let n1 = e1 .before in
     rw (c .conflict4 .ensures) (simp (le-ltb _ _ (e1 .if1 .left), sym (n2 .none-with-some .ensures) ∙ e2 .if2 .left, sym (n3 .some-with-none .ensures) ∙ e3 .if3 .left, sym (n4 .both-none .ensures) ∙ c .before .if4 .taken))
 
--- src/odds.rt:37:9
 conflict-requires-5 : tie.Need-conflict-requires-5
 conflict-requires-5 c κs = search needs
 
--- src/odds.rt:37:9
 returns-5 : tie.Need-returns-5
 unfolding firstBroken atOdds
 returns-5 c =
@@ -100,15 +79,12 @@ returns-5 c =
     let n1 = e1 .before in
     rw (c .conflict5 .ensures) (simp (le-ltb _ _ (e1 .if1 .left), sym (n2 .none-with-some .ensures) ∙ e2 .if2 .left, sym (n3 .some-with-none .ensures) ∙ e3 .if3 .left, sym (n4 .both-none .ensures) ∙ e4 .if4 .left, lt-ltb _ _ (c .before .if5 .taken)))
 
--- src/odds.rt:42:8
 some-below-two-requires : tie.Need-some-below-two-requires
 some-below-two-requires c κs = search needs
 
--- src/odds.rt:43:9
 conflict-requires-6 : tie.Need-conflict-requires-6
 conflict-requires-6 c κs = search needs
 
--- src/odds.rt:43:9
 returns-6 : tie.Need-returns-6
 unfolding firstBroken atOdds
 returns-6 c =
@@ -125,15 +101,12 @@ returns-6 c =
     let n1 = e1 .before in
     rw (c .conflict6 .ensures) (simp (le-ltb _ _ (e1 .if1 .left), sym (n2 .none-with-some .ensures) ∙ e2 .if2 .left, sym (n3 .some-with-none .ensures) ∙ e3 .if3 .left, sym (n4 .both-none .ensures) ∙ e4 .if4 .left, le-ltb _ _ (e5 .if5 .left), sym (n6 .some-below-two .ensures) ∙ c .before .if6 .taken))
 
--- src/odds.rt:48:8
 too-long-requires : tie.Need-too-long-requires
 too-long-requires c κs = search needs
 
--- src/odds.rt:49:9
 conflict-requires-7 : tie.Need-conflict-requires-7
 conflict-requires-7 c κs = search needs
 
--- src/odds.rt:49:9
 returns-7 : tie.Need-returns-7
 unfolding firstBroken atOdds
 returns-7 c =
@@ -152,7 +125,6 @@ returns-7 c =
     let n1 = e1 .before in
     rw (c .conflict7 .ensures) (simp (le-ltb _ _ (e1 .if1 .left), sym (n2 .none-with-some .ensures) ∙ e2 .if2 .left, sym (n3 .some-with-none .ensures) ∙ e3 .if3 .left, sym (n4 .both-none .ensures) ∙ e4 .if4 .left, le-ltb _ _ (e5 .if5 .left), sym (n6 .some-below-two .ensures) ∙ e6 .if6 .left, sym (n7 .too-long .ensures) ∙ c .before .if7 .taken))
 
--- src/odds.rt:18:1
 returns-8 : tie.Need-returns-8
 unfolding firstBroken atOdds
 returns-8 c =

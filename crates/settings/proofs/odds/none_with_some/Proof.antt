@@ -2,14 +2,10 @@
 use borrow.Author.Tests.{eq-eqb, ne-eqb}
 use Rattle.settings.proofs.odds.none_with_some.Statement.{statement}
 use Rattle.settings.proofs.odds.none_with_some.Tie as tie
-use Rattle.settings.proofs.odds.none_with_some.Reads as reads
-use Rattle.settings.proofs.odds.none_with_some.Lts as lts
 
--- src/odds.rt:67:9
 returns : tie.Need-returns
 returns c = simp (eq-eqb _ _ (c .if1 .taken))
 
--- src/odds.rt:63:1
 returns-2 : tie.Need-returns-2
 returns-2 c = simp (ne-eqb _ _ (c .if1 .left))
 

@@ -2,14 +2,10 @@
 use borrow.Author.Tests.{lt-ltb, le-ltb}
 use Rattle.settings.proofs.odds.some_with_none.Statement.{statement}
 use Rattle.settings.proofs.odds.some_with_none.Tie as tie
-use Rattle.settings.proofs.odds.some_with_none.Reads as reads
-use Rattle.settings.proofs.odds.some_with_none.Lts as lts
 
--- src/odds.rt:76:9
 returns : tie.Need-returns
 returns c = simp (lt-ltb _ _ (c .if1 .taken))
 
--- src/odds.rt:72:1
 returns-2 : tie.Need-returns-2
 returns-2 c = simp (le-ltb _ _ (c .if1 .left))
 

@@ -6,14 +6,10 @@ use Prim.Native.Nat.{_+_}
 use native.Mathlib.Omega.{arith}
 use Rattle.settings.proofs.odds.too_long.Statement.{statement}
 use Rattle.settings.proofs.odds.too_long.Tie as tie
-use Rattle.settings.proofs.odds.too_long.Reads as reads
-use Rattle.settings.proofs.odds.too_long.Lts as lts
 
--- src/odds.rt:95:9
 returns : tie.Need-returns
 returns c = sym (lt-ltb 127 (c .before .args .head + c .before .args .payload) (omega (arith, c .if1 .taken)))
 
--- src/odds.rt:91:1
 returns-2 : tie.Need-returns-2
 returns-2 c = rest-passed 127 (c .before .args .head) (c .before .args .payload) (c .if1 .left)
 

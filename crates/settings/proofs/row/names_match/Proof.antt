@@ -5,19 +5,13 @@ use Rattle.settings.proofs.Sameness.{same-decided}
 use borrow.Author.Needs.{needs}
 use Rattle.settings.proofs.row.names_match.Statement.{statement}
 use Rattle.settings.proofs.row.names_match.Tie as tie
-use Rattle.settings.proofs.row.names_match.Reads as reads
-use Rattle.settings.proofs.row.names_match.Lts as lts
-use Rattle.check.proofs.same.Reads as same-reads
 
--- src/row.rt:37:24
 slice-aggregate-same : tie.Need-slice-aggregate-same
 slice-aggregate-same c = search needs
 
--- src/row.rt:37:5
 same-requires : tie.Need-same-requires
 same-requires c κs = search needs
 
--- src/row.rt:34:1
 returns : tie.Need-returns
 unfolding isNameLine nameLine names table ascii
 returns c = same-decided (c .same .result) (c .before .before .before .args .names .now) _ (c .same .ensures .0) (c .same .ensures .1)

@@ -4,27 +4,19 @@ use mathlib.Core.Path.{sym, _∙_}
 use borrow.Author.Needs.{needs}
 use Rattle.settings.proofs.row.read_named_row.Statement.{statement}
 use Rattle.settings.proofs.row.read_named_row.Tie as tie
-use Rattle.settings.proofs.row.read_named_row.Reads as reads
-use Rattle.settings.proofs.row.read_named_row.Lts as lts
-use Rattle.settings.proofs.row.names_match.Reads as names-match-reads
-use Rattle.settings.proofs.row.read_row.Reads as read-row-reads
 
--- src/row.rt:66:8
 names-match-requires : tie.Need-names-match-requires
 names-match-requires c κs = search needs
 
--- src/row.rt:67:9
 read-row-requires : tie.Need-read-row-requires
 read-row-requires c κs = search needs
 
--- src/row.rt:67:9
 returns : tie.Need-returns
 returns c =
     let n = c .before .before in
     let a = n .before .before .before .args in
     c .read-row .ensures ∙ under-names (a .names .now) (a .row .now) (sym (n .names-match .ensures) ∙ c .before .if1 .taken)
 
--- src/row.rt:63:1
 returns-2 : tie.Need-returns-2
 returns-2 c =
     let n = c .before in

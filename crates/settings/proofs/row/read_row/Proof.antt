@@ -1,25 +1,16 @@
 -- `settings::row::read_row` meets its contract. Assumes nothing.
-use Rattle.settings.proofs.RowCases.{values-length, row-unwritten, row-unranged, row-at-odds, row-read}
-use mathlib.Core.Path.{sym, ap, _∙_, subst}
+use Rattle.settings.proofs.RowCases.{row-unwritten, row-unranged, row-at-odds, row-read}
+use mathlib.Core.Path.{sym, _∙_}
 use borrow.Author.Needs.{needs}
 use Rattle.settings.proofs.row.read_row.Statement.{statement}
 use Rattle.settings.proofs.row.read_row.Tie as tie
-use Rattle.settings.proofs.row.read_row.Reads as reads
-use Rattle.settings.proofs.row.read_row.Lts as lts
-use Rattle.settings.proofs.columns.in_range.Reads as in-range-reads
-use Rattle.settings.proofs.odds.agree.Reads as agree-reads
-use Rattle.settings.proofs.row.settings_of.Reads as settings-of-reads
-use Rattle.settings.proofs.values.read_values.Reads as read-values-reads
 
--- src/row.rt:44:9
 read-values-requires : tie.Need-read-values-requires
 read-values-requires c κs = search needs
 
--- src/row.rt:46:28
 enum-known-verdict : tie.Need-enum-known-verdict
 enum-known-verdict c = search needs
 
--- src/row.rt:47:9
 returns : tie.Need-returns
 returns c =
     let b = c .before .before .before in
@@ -28,15 +19,12 @@ returns c =
 enum-told : tie.Need-enum-told
 enum-told c = search needs
 
--- src/row.rt:50:9
 in-range-requires : tie.Need-in-range-requires
 in-range-requires c κs = search needs
 
--- src/row.rt:51:28
 enum-known-verdict-2 : tie.Need-enum-known-verdict-2
 enum-known-verdict-2 c = search needs
 
--- src/row.rt:52:9
 returns-2 : tie.Need-returns-2
 returns-2 c =
     let b = c .before .before .before in
@@ -52,19 +40,15 @@ returns-2 c =
 enum-told-2 : tie.Need-enum-told-2
 enum-told-2 c = search needs
 
--- src/row.rt:54:9
 settings-of-requires : tie.Need-settings-of-requires
 settings-of-requires c κs = search needs
 
--- src/row.rt:55:9
 agree-requires : tie.Need-agree-requires
 agree-requires c κs = search needs
 
--- src/row.rt:56:28
 enum-known-verdict-3 : tie.Need-enum-known-verdict-3
 enum-known-verdict-3 c = search needs
 
--- src/row.rt:57:9
 returns-3 : tie.Need-returns-3
 returns-3 c =
     let b = c .before .before .before .before .before .before .before in
@@ -85,7 +69,6 @@ returns-3 c =
 enum-told-3 : tie.Need-enum-told-3
 enum-told-3 c = search needs
 
--- src/row.rt:41:1
 returns-4 : tie.Need-returns-4
 returns-4 c =
     let b = c .before .before .before .before .before .before in

@@ -4,58 +4,43 @@ use Rattle.settings.specs.Rows.{settingsOf}
 use borrow.Author.Needs.{needs}
 use Rattle.settings.proofs.row.settings_of.Statement.{statement}
 use Rattle.settings.proofs.row.settings_of.Tie as tie
-use Rattle.settings.proofs.row.settings_of.Reads as reads
-use Rattle.settings.proofs.row.settings_of.Lts as lts
 
--- src/row.rt:76:13
 array-read-t5 : tie.Need-array-read-t5
 array-read-t5 c = search needs
 
--- src/row.rt:77:13
 array-read-t8 : tie.Need-array-read-t8
 array-read-t8 c = search needs
 
--- src/row.rt:78:12
 array-read-t11 : tie.Need-array-read-t11
 array-read-t11 c = search needs
 
--- src/row.rt:79:13
 array-read-t14 : tie.Need-array-read-t14
 array-read-t14 c = search needs
 
--- src/row.rt:80:13
 array-read-t17 : tie.Need-array-read-t17
 array-read-t17 c = search needs
 
--- src/row.rt:81:14
 array-read-t20 : tie.Need-array-read-t20
 array-read-t20 c = search needs
 
--- src/row.rt:82:15
 array-read-t23 : tie.Need-array-read-t23
 array-read-t23 c = search needs
 
--- src/row.rt:83:16
 array-read-t26 : tie.Need-array-read-t26
 array-read-t26 c = search needs
 
--- src/row.rt:84:15
 array-read-t29 : tie.Need-array-read-t29
 array-read-t29 c = search needs
 
--- src/row.rt:85:15
 array-read-t32 : tie.Need-array-read-t32
 array-read-t32 c = search needs
 
--- src/row.rt:86:18
 array-read-t35 : tie.Need-array-read-t35
 array-read-t35 c = search needs
 
--- src/row.rt:87:14
 array-read-t38 : tie.Need-array-read-t38
 array-read-t38 c = search needs
 
--- src/row.rt:72:1
 returns : tie.Need-returns
 unfolding settingsOf
 returns c = refl

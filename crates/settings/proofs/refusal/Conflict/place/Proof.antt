@@ -3,59 +3,45 @@ use Rattle.settings.specs.Refusals.{conflictPlace}
 use borrow.Author.Needs.{needs}
 use Rattle.settings.proofs.refusal.Conflict.place.Statement.{statement}
 use Rattle.settings.proofs.refusal.Conflict.place.Tie as tie
-use Rattle.settings.proofs.refusal.Conflict.place.Reads as reads
-use Rattle.settings.proofs.refusal.Conflict.place.Lts as lts
 
--- src/refusal.rt:68:50
 enum-told : tie.Need-enum-told
 enum-told c = search needs
 
--- src/refusal.rt:69:50
 enum-told-2 : tie.Need-enum-told-2
 enum-told-2 c = search needs
 
--- src/refusal.rt:70:52
 enum-told-3 : tie.Need-enum-told-3
 enum-told-3 c = search needs
 
--- src/refusal.rt:71:54
 enum-told-4 : tie.Need-enum-told-4
 enum-told-4 c = search needs
 
--- src/refusal.rt:72:58
 enum-told-5 : tie.Need-enum-told-5
 enum-told-5 c = search needs
 
--- src/refusal.rt:76:18
 enum-told-6 : tie.Need-enum-told-6
 enum-told-6 c = search needs
 
--- src/refusal.rt:64:5
 returns : tie.Need-returns
 unfolding conflictPlace
 returns c = rw (c .enum-told .given .1)
 
--- src/refusal.rt:64:5
 returns-2 : tie.Need-returns-2
 unfolding conflictPlace
 returns-2 c = rw (c .enum-told2 .given .1)
 
--- src/refusal.rt:64:5
 returns-3 : tie.Need-returns-3
 unfolding conflictPlace
 returns-3 c = rw (c .enum-told3 .given .1)
 
--- src/refusal.rt:64:5
 returns-4 : tie.Need-returns-4
 unfolding conflictPlace
 returns-4 c = rw (c .enum-told4 .given .1)
 
--- src/refusal.rt:64:5
 returns-5 : tie.Need-returns-5
 unfolding conflictPlace
 returns-5 c = rw (c .enum-told5 .given .1)
 
--- src/refusal.rt:64:5
 returns-6 : tie.Need-returns-6
 unfolding conflictPlace
 returns-6 c = rw (c .enum-told6 .given .1)

@@ -3,41 +3,31 @@ use Rattle.settings.specs.Refusals.{numberOf}
 use borrow.Author.Needs.{needs}
 use Rattle.settings.proofs.refusal.Refusal.number.Statement.{statement}
 use Rattle.settings.proofs.refusal.Refusal.number.Tie as tie
-use Rattle.settings.proofs.refusal.Refusal.number.Reads as reads
-use Rattle.settings.proofs.refusal.Refusal.number.Lts as lts
 
--- src/refusal.rt:39:31
 enum-told : tie.Need-enum-told
 enum-told c = search needs
 
--- src/refusal.rt:40:50
 enum-told-2 : tie.Need-enum-told-2
 enum-told-2 c = search needs
 
--- src/refusal.rt:44:18
 enum-told-3 : tie.Need-enum-told-3
 enum-told-3 c = search needs
 
--- src/refusal.rt:45:35
 enum-told-4 : tie.Need-enum-told-4
 enum-told-4 c = search needs
 
--- src/refusal.rt:35:5
 returns : tie.Need-returns
 unfolding numberOf
 returns c = rw (c .enum-told .given .1)
 
--- src/refusal.rt:35:5
 returns-2 : tie.Need-returns-2
 unfolding numberOf
 returns-2 c = rw (c .enum-told2 .given .1)
 
--- src/refusal.rt:35:5
 returns-3 : tie.Need-returns-3
 unfolding numberOf
 returns-3 c = rw (c .enum-told3 .given .1)
 
--- src/refusal.rt:35:5
 returns-4 : tie.Need-returns-4
 unfolding numberOf
 returns-4 c = rw (c .enum-told4 .given .1)

@@ -3,46 +3,34 @@ use Rattle.settings.specs.Refusals.{placeOf}
 use borrow.Author.Needs.{needs}
 use Rattle.settings.proofs.refusal.Refusal.place.Statement.{statement}
 use Rattle.settings.proofs.refusal.Refusal.place.Tie as tie
-use Rattle.settings.proofs.refusal.Refusal.place.Reads as reads
-use Rattle.settings.proofs.refusal.Refusal.place.Lts as lts
-use Rattle.settings.proofs.refusal.Conflict.place.Reads as place-reads
 
--- src/refusal.rt:54:31
 enum-told : tie.Need-enum-told
 enum-told c = search needs
 
--- src/refusal.rt:55:35
 enum-known-self : tie.Need-enum-known-self
 enum-known-self c = search needs
 
--- src/refusal.rt:56:35
 enum-known-self-2 : tie.Need-enum-known-self-2
 enum-known-self-2 c = search needs
 
--- src/refusal.rt:57:29
 enum-known-self-3 : tie.Need-enum-known-self-3
 enum-known-self-3 c = search needs
 
--- src/refusal.rt:57:42
 place-requires : tie.Need-place-requires
 place-requires c κs = search needs
 
--- src/refusal.rt:50:5
 returns : tie.Need-returns
 unfolding placeOf
 returns c = rw (c .enum-told .given .1)
 
--- src/refusal.rt:50:5
 returns-2 : tie.Need-returns-2
 unfolding placeOf
 returns-2 c = rw (c .before .self .given .1)
 
--- src/refusal.rt:50:5
 returns-3 : tie.Need-returns-3
 unfolding placeOf
 returns-3 c = rw (c .before .self2 .given .1)
 
--- src/refusal.rt:50:5
 returns-4 : tie.Need-returns-4
 unfolding placeOf
 returns-4 c = rw (c .before .before .self3 .given .1) (c .place .ensures)

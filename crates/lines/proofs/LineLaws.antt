@@ -1,15 +1,14 @@
 -- The line at a position of a text. Assumes nothing.
-use mathlib.Core.Path.{_≡_, refl, sym, ap}
-use mathlib.Core.List.{List, [], _∷_}
+use mathlib.Core.Path.{_≡_}
+use mathlib.Core.List.{List}
 use Prim.Native.Nat.{ℕ, _+_, _-_, _≤_, _<_, min}
 use native.Mathlib.Omega.{arith}
 use lib.ListN.{length, take, drop, length-drop, length-take}
 use lib.Seq.{take-length}
 use Rattle.bytes.specs.Bytes.{indexOf, slice}
-use Rattle.settings.specs.declared.text.Line.{Line}
-use Rattle.settings.specs.declared.text.Line.the-variants.{Found, Nothing}
-use Rattle.settings.specs.Text.{firstLine, lineAt}
-use Rattle.settings.proofs.Cutting.{index-le, lines-past, lines-step}
+use Rattle.lines.specs.declared.Line.the-variants.{Found, Nothing}
+use Rattle.lines.specs.Text.{firstLine, lineAt}
+use Rattle.lines.proofs.Cutting.{index-le, lines-past, lines-step}
 
 -- where a search of all the rest of a text finds a byte
 pub found-in-rest : (b : ℕ) (s : List ℕ) (at end : ℕ) → end ≡ at + indexOf b (slice at (length s) s) → end ≡ at + indexOf b (drop at s)

@@ -4,9 +4,8 @@ use mathlib.Core.Bool.{Bool, true, false, cond, _&&_}
 use mathlib.Core.List.{List, [], _∷_}
 use lib.Dec.{leb, eqb}
 use lib.ListN.{length, take, drop}
-use Rattle.settings.specs.declared.text.Cursor.{Cursor}
-use Rattle.settings.specs.declared.text.Line.{Line}
-use Rattle.settings.specs.declared.text.Line.the-variants.{Found, Nothing}
+use Rattle.lines.specs.declared.Line.{Line}
+use Rattle.lines.specs.declared.Line.the-variants.{Found, Nothing}
 
 -- pieces of bytes with one byte more in front: it ends a piece that is empty so far, or stands first in the first piece
 unfoldable pub before : Bool → ℕ → List (List ℕ) → List (List ℕ)

@@ -1,8 +1,8 @@
 -- Bytes cut into pieces, from the first cut on. Assumes nothing.
-use mathlib.Core.Path.{_≡_, refl, ap, _∙_, sym}
+use mathlib.Core.Path.{_≡_, refl, sym}
 use mathlib.Core.Bool.{Bool, true, false, cond}
 use mathlib.Core.List.{List, [], _∷_}
-use Prim.Native.Nat.{ℕ, zero, suc, _+_, _-_, _≤_, _<_}
+use Prim.Native.Nat.{ℕ, suc, _+_, _-_, _≤_, _<_}
 use native.Mathlib.Omega.{arith}
 use native.Mathlib.Nat.{le-of-lt}
 use lib.Dec.{eqb, leb}
@@ -10,7 +10,7 @@ use lib.ListN.{length, take, drop, drop-of-length-le, length-drop}
 use lib.Seq.{drop-drop, take-all}
 use borrow.Author.Tests.{le-leb, lt-leb, leb-true, leb-false}
 use Rattle.bytes.specs.Bytes.{indexOf, indexAfter}
-use Rattle.settings.specs.Text.{before, pieces, fields, lines}
+use Rattle.lines.specs.Text.{before, pieces, fields, lines}
 
 -- the index of a byte is at most the length
 pub index-le : (at : ℕ) (s : List ℕ) → indexOf at s ≤ length s

@@ -1,6 +1,9 @@
 // A text's lines, one after another.
+//
+// No public function has a `requires`: each answers every argument, as an equation with a definition of specs/ says. Nothing is
+// written anywhere.
 ghost use mathlib.Core.Path.{_≡_};
-ghost use Rattle.settings.specs.Text.{lineAt, partOf};
+ghost use Rattle.lines.specs.Text.{lineAt, partOf};
 
 const LF: u8 = 10;
 

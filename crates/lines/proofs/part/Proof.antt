@@ -1,39 +1,30 @@
--- `settings::text::part` meets its contract. Assumes nothing.
-use Rattle.settings.specs.Text.{partOf}
+-- `lines::part` meets its contract. Assumes nothing.
+use Rattle.lines.specs.Text.{partOf}
 use borrow.Author.Tests.{le-leb, lt-leb}
 use borrow.Author.Needs.{needs}
-use Rattle.settings.proofs.text.part.Statement.{statement}
-use Rattle.settings.proofs.text.part.Tie as tie
-use Rattle.settings.proofs.text.part.Reads as reads
-use Rattle.settings.proofs.text.part.Lts as lts
+use Rattle.lines.proofs.part.Statement.{statement}
+use Rattle.lines.proofs.part.Tie as tie
 
--- src/text.rt:62:9
 slice-aggregate-result : tie.Need-slice-aggregate-result
 slice-aggregate-result c = search needs
 
--- src/text.rt:62:9
 returns : tie.Need-returns
 unfolding partOf
 returns c = simp (lt-leb _ _ (c .before .if1 .taken))
 
--- src/text.rt:65:9
 slice-aggregate-result-2 : tie.Need-slice-aggregate-result-2
 slice-aggregate-result-2 c = search needs
 
--- src/text.rt:65:9
 returns-2 : tie.Need-returns-2
 unfolding partOf
 returns-2 c = simp (le-leb _ _ (c .before .before .if1 .left), lt-leb _ _ (c .before .if2 .taken))
 
--- src/text.rt:67:5
 part-result-start : tie.Need-part-result-start
 part-result-start c = search needs
 
--- src/text.rt:67:5
 part-result-end : tie.Need-part-result-end
 part-result-end c = search needs
 
--- src/text.rt:58:1
 returns-3 : tie.Need-returns-3
 unfolding partOf
 returns-3 c = simp (le-leb _ _ (c .before .before .if1 .left), le-leb _ _ (c .before .if2 .left))

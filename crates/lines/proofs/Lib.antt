@@ -1,0 +1,11 @@
+-- Laws about the definitions of specs/. Assumes nothing.
+-- bytes cut into pieces, from the first cut on
+pub mod Cutting
+-- the line at a position
+pub mod LineLaws
+-- a line put together again from its values
+pub mod Joining
+-- the laws of specs/Laws
+pub mod LawsHold
+-- the examples
+pub mod ExamplesHold
