@@ -3,3 +3,5 @@
 pub mod Spelling
 -- two readable texts of the same number are the same
 pub mod OneSpelling
+-- the examples
+pub mod ExamplesHold

@@ -3,3 +3,5 @@
 pub mod Ascii
 -- the number that bytes spell
 pub mod Number
+-- small texts, computed in one table
+pub mod Examples

@@ -1,4 +1,5 @@
 -- `decimal::is_shaped` meets its contract. Assumes nothing.
+use lib.ListN.{length}
 use native.Mathlib.Omega.{arith}
 use borrow.Author.Tests.{le-leb, lt-leb}
 use Rattle.decimal.specs.Number.{shaped}
@@ -9,11 +10,13 @@ use Rattle.decimal.proofs.is_shaped.Tie as tie
 
 returns : tie.Need-returns
 unfolding shaped
-returns c = simp (lt-leb _ _ (c .if1 .taken))
+returns c = let s = c .before .args .s .now in simp (lt-leb 1 (length s) (omega (arith, c .if1 .taken)))
 
 returns-2 : tie.Need-returns-2
 unfolding shaped
-returns-2 c = simp (le-leb _ _ (c .before .if1 .left), lt-leb _ _ (c .if2 .taken))
+returns-2 c =
+    let s = c .before .before .args .s .now in
+    simp (le-leb 1 (length s) (omega (arith, c .before .if1 .left)), lt-leb (length s) 4 (omega (arith, c .if2 .taken)))
 
 returns-3 : tie.Need-returns-3
 returns-3 c = shaped-one (c .before .before .before .args .s .now) (c .if3 .taken)
@@ -24,7 +27,9 @@ shared-slice-read-result c = search needs
 returns-4 : tie.Need-returns-4
 returns-4 c =
     let s = c .before .before .before .before .args .s .now in
-    shaped-several s (omega (arith, c .before .before .before .if1 .left, c .before .if3 .left)) (c .before .before .if2 .left)
+    shaped-several s
+    (omega (arith, c .before .before .before .if1 .left, c .before .if3 .left))
+    (omega (arith, c .before .before .if2 .left))
 
 pub is-shaped-spec : {M : Type 1} → statement M
 is-shaped-spec =

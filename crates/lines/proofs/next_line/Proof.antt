@@ -9,7 +9,7 @@ use Rattle.lines.proofs.next_line.Statement.{statement}
 use Rattle.lines.proofs.next_line.Tie as tie
 
 returns : tie.Need-returns
-returns c = sym (line-none (c .before .before .args .text .now) (c .before .before .args .cursor .at) (c .if1 .taken))
+returns c = sym (line-none (c .before .before .args .text .now) (c .before .before .args .cursor .at) (omega (arith, c .if1 .taken)))
 
 find-requires : tie.Need-find-requires
 find-requires c κs = search needs
@@ -23,7 +23,7 @@ returns-2 c =
     let end = c .before .find .result in
     let e = found-in-rest 10 (a .text .now) (a .cursor .at) end (c .before .find .ensures .0) in
     let m : min (end + 1) (length (a .text .now)) ≡ end + 1 = omega (arith, c .if2 .taken) in
-    sym (rw m at (line-found (a .text .now) (a .cursor .at) end (c .before .before .if1 .left) e))
+    sym (rw m at (line-found (a .text .now) (a .cursor .at) end (omega (arith, c .before .before .if1 .left)) e))
 
 returns-3 : tie.Need-returns-3
 returns-3 c =
@@ -31,7 +31,7 @@ returns-3 c =
     let end = c .before .find .result in
     let e = found-in-rest 10 (a .text .now) (a .cursor .at) end (c .before .find .ensures .0) in
     let m : min (end + 1) (length (a .text .now)) ≡ end = omega (arith, c .if2 .left, c .before .find .ensures .1) in
-    sym (rw m at (line-found (a .text .now) (a .cursor .at) end (c .before .before .if1 .left) e))
+    sym (rw m at (line-found (a .text .now) (a .cursor .at) end (omega (arith, c .before .before .if1 .left)) e))
 
 pub next-line-spec : {M : Type 1} → statement M
 next-line-spec = tie.close (tie.spec returns find-requires add-t7 returns-2 returns-3)

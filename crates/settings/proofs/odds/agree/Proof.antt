@@ -1,4 +1,5 @@
 -- `settings::odds::agree` meets its contract. Assumes nothing.
+use native.Mathlib.Omega.{arith}
 use Rattle.settings.specs.Rows.{atOdds}
 use Rattle.settings.specs.Conditions.{firstBroken}
 use mathlib.Core.Path.{sym, _∙_}
@@ -12,7 +13,10 @@ conflict-requires c κs = search needs
 
 returns : tie.Need-returns
 unfolding firstBroken atOdds
-returns c = rw (c .conflict .ensures) (simp (lt-ltb _ _ (c .before .if1 .taken)))
+returns c =
+    let n1 = c .before .before in
+    let s = n1 .before .args .s in
+    rw (c .conflict .ensures) (simp (lt-ltb (s .bo) (s .so) (omega (arith, c .before .if1 .taken))))
 
 none-with-some-requires : tie.Need-none-with-some-requires
 none-with-some-requires c κs = search needs
@@ -26,7 +30,8 @@ returns-2 c =
     let n2 = c .before .before in
     let e1 = n2 .before in
     let n1 = e1 .before in
-    rw (c .conflict2 .ensures) (simp (le-ltb _ _ (e1 .if1 .left), sym (n2 .none-with-some .ensures) ∙ c .before .if2 .taken))
+    let s = n1 .before .args .s in
+    rw (c .conflict2 .ensures) (simp (le-ltb (s .bo) (s .so) (omega (arith, e1 .if1 .left)), sym (n2 .none-with-some .ensures) ∙ c .before .if2 .taken))
 
 some-with-none-requires : tie.Need-some-with-none-requires
 some-with-none-requires c κs = search needs
@@ -42,7 +47,8 @@ returns-3 c =
     let n2 = e2 .before in
     let e1 = n2 .before in
     let n1 = e1 .before in
-    rw (c .conflict3 .ensures) (simp (le-ltb _ _ (e1 .if1 .left), sym (n2 .none-with-some .ensures) ∙ e2 .if2 .left, sym (n3 .some-with-none .ensures) ∙ c .before .if3 .taken))
+    let s = n1 .before .args .s in
+    rw (c .conflict3 .ensures) (simp (le-ltb (s .bo) (s .so) (omega (arith, e1 .if1 .left)), sym (n2 .none-with-some .ensures) ∙ e2 .if2 .left, sym (n3 .some-with-none .ensures) ∙ c .before .if3 .taken))
 
 both-none-requires : tie.Need-both-none-requires
 both-none-requires c κs = search needs
@@ -60,7 +66,8 @@ returns-4 c =
     let n2 = e2 .before in
     let e1 = n2 .before in
     let n1 = e1 .before in
-    rw (c .conflict4 .ensures) (simp (le-ltb _ _ (e1 .if1 .left), sym (n2 .none-with-some .ensures) ∙ e2 .if2 .left, sym (n3 .some-with-none .ensures) ∙ e3 .if3 .left, sym (n4 .both-none .ensures) ∙ c .before .if4 .taken))
+    let s = n1 .before .args .s in
+    rw (c .conflict4 .ensures) (simp (le-ltb (s .bo) (s .so) (omega (arith, e1 .if1 .left)), sym (n2 .none-with-some .ensures) ∙ e2 .if2 .left, sym (n3 .some-with-none .ensures) ∙ e3 .if3 .left, sym (n4 .both-none .ensures) ∙ c .before .if4 .taken))
 
 conflict-requires-5 : tie.Need-conflict-requires-5
 conflict-requires-5 c κs = search needs
@@ -77,7 +84,8 @@ returns-5 c =
     let n2 = e2 .before in
     let e1 = n2 .before in
     let n1 = e1 .before in
-    rw (c .conflict5 .ensures) (simp (le-ltb _ _ (e1 .if1 .left), sym (n2 .none-with-some .ensures) ∙ e2 .if2 .left, sym (n3 .some-with-none .ensures) ∙ e3 .if3 .left, sym (n4 .both-none .ensures) ∙ e4 .if4 .left, lt-ltb _ _ (c .before .if5 .taken)))
+    let s = n1 .before .args .s in
+    rw (c .conflict5 .ensures) (simp (le-ltb (s .bo) (s .so) (omega (arith, e1 .if1 .left)), sym (n2 .none-with-some .ensures) ∙ e2 .if2 .left, sym (n3 .some-with-none .ensures) ∙ e3 .if3 .left, sym (n4 .both-none .ensures) ∙ e4 .if4 .left, lt-ltb (s .h) (s .sink) (omega (arith, c .before .if5 .taken))))
 
 some-below-two-requires : tie.Need-some-below-two-requires
 some-below-two-requires c κs = search needs
@@ -99,7 +107,8 @@ returns-6 c =
     let n2 = e2 .before in
     let e1 = n2 .before in
     let n1 = e1 .before in
-    rw (c .conflict6 .ensures) (simp (le-ltb _ _ (e1 .if1 .left), sym (n2 .none-with-some .ensures) ∙ e2 .if2 .left, sym (n3 .some-with-none .ensures) ∙ e3 .if3 .left, sym (n4 .both-none .ensures) ∙ e4 .if4 .left, le-ltb _ _ (e5 .if5 .left), sym (n6 .some-below-two .ensures) ∙ c .before .if6 .taken))
+    let s = n1 .before .args .s in
+    rw (c .conflict6 .ensures) (simp (le-ltb (s .bo) (s .so) (omega (arith, e1 .if1 .left)), sym (n2 .none-with-some .ensures) ∙ e2 .if2 .left, sym (n3 .some-with-none .ensures) ∙ e3 .if3 .left, sym (n4 .both-none .ensures) ∙ e4 .if4 .left, le-ltb (s .h) (s .sink) (omega (arith, e5 .if5 .left)), sym (n6 .some-below-two .ensures) ∙ c .before .if6 .taken))
 
 too-long-requires : tie.Need-too-long-requires
 too-long-requires c κs = search needs
@@ -123,13 +132,13 @@ returns-7 c =
     let n2 = e2 .before in
     let e1 = n2 .before in
     let n1 = e1 .before in
-    rw (c .conflict7 .ensures) (simp (le-ltb _ _ (e1 .if1 .left), sym (n2 .none-with-some .ensures) ∙ e2 .if2 .left, sym (n3 .some-with-none .ensures) ∙ e3 .if3 .left, sym (n4 .both-none .ensures) ∙ e4 .if4 .left, le-ltb _ _ (e5 .if5 .left), sym (n6 .some-below-two .ensures) ∙ e6 .if6 .left, sym (n7 .too-long .ensures) ∙ c .before .if7 .taken))
+    let s = n1 .before .args .s in
+    rw (c .conflict7 .ensures) (simp (le-ltb (s .bo) (s .so) (omega (arith, e1 .if1 .left)), sym (n2 .none-with-some .ensures) ∙ e2 .if2 .left, sym (n3 .some-with-none .ensures) ∙ e3 .if3 .left, sym (n4 .both-none .ensures) ∙ e4 .if4 .left, le-ltb (s .h) (s .sink) (omega (arith, e5 .if5 .left)), sym (n6 .some-below-two .ensures) ∙ e6 .if6 .left, sym (n7 .too-long .ensures) ∙ c .before .if7 .taken))
 
 returns-8 : tie.Need-returns-8
 unfolding firstBroken atOdds
 returns-8 c =
-    let e7 = c in
-    let n7 = e7 .before in
+    let n7 = c .before in
     let e6 = n7 .before in
     let n6 = e6 .before in
     let e5 = n6 .before in
@@ -142,7 +151,8 @@ returns-8 c =
     let n2 = e2 .before in
     let e1 = n2 .before in
     let n1 = e1 .before in
-    simp (le-ltb _ _ (e1 .if1 .left), sym (n2 .none-with-some .ensures) ∙ e2 .if2 .left, sym (n3 .some-with-none .ensures) ∙ e3 .if3 .left, sym (n4 .both-none .ensures) ∙ e4 .if4 .left, le-ltb _ _ (e5 .if5 .left), sym (n6 .some-below-two .ensures) ∙ e6 .if6 .left, sym (n7 .too-long .ensures) ∙ e7 .if7 .left)
+    let s = n1 .before .args .s in
+    simp (le-ltb (s .bo) (s .so) (omega (arith, e1 .if1 .left)), sym (n2 .none-with-some .ensures) ∙ e2 .if2 .left, sym (n3 .some-with-none .ensures) ∙ e3 .if3 .left, sym (n4 .both-none .ensures) ∙ e4 .if4 .left, le-ltb (s .h) (s .sink) (omega (arith, e5 .if5 .left)), sym (n6 .some-below-two .ensures) ∙ e6 .if6 .left, sym (n7 .too-long .ensures) ∙ c .if7 .left)
 
 pub agree-spec : {M : Type 1} → statement M
 agree-spec =

@@ -24,7 +24,7 @@ returns : tie.Need-returns Inv-loop μ-loop
 returns c =
     let l = c .before .before .before .loop in
     let row = c .before .before .before .before .before .args .row .now in
-    let e = taken-missing row (l .numbers) (l .at) (l .k) (l .inv) (c .before .before .loop-test .taken) (c .before .if1 .taken) in
+    let e = taken-missing row (l .numbers) (l .at) (l .k) (l .inv) (c .before .before .loop-test .taken) (omega (arith, c .before .if1 .taken)) in
     let u = c .unreadable .ensures in
     (u ∙ sym e, λ kept. broken-kept _ (sym u ∙ kept))
 
@@ -96,7 +96,7 @@ returns-3 : tie.Need-returns-3 Inv-loop μ-loop
 returns-3 c =
     let l = c .before .before .before .loop in
     let row = c .before .before .before .before .before .args .row .now in
-    let e = taken-after row (l .numbers) (l .at) (l .k) (l .inv) (omega (arith, l .inv .few)) (c .before .if2 .taken) in
+    let e = taken-after row (l .numbers) (l .at) (l .k) (l .inv) (omega (arith, l .inv .few)) (omega (arith, c .before .if2 .taken)) in
     let u = c .unreadable3 .ensures in
     (u ∙ sym e, λ kept. broken-kept _ (sym u ∙ kept))
 
@@ -104,7 +104,7 @@ returns-4 : tie.Need-returns-4 Inv-loop μ-loop
 returns-4 c =
     let l = c .before .before .loop in
     let row = c .before .before .before .before .args .row .now in
-    let e = taken-all row (l .numbers) (l .at) (l .k) (l .inv) (omega (arith, l .inv .few)) (c .if2 .left) in
+    let e = taken-all row (l .numbers) (l .at) (l .k) (l .inv) (omega (arith, l .inv .few)) (omega (arith, c .if2 .left)) in
     (sym (e .0), λ kept. e .1)
 
 pub read-values-spec : {M : Type 1} → statement M

@@ -1,0 +1,25 @@
+-- The examples of specs/Examples, computed. Assumes nothing.
+use mathlib.Core.Path.{refl}
+use Rattle.decimal.specs.Ascii.{ascii}
+use Rattle.decimal.specs.Number.{digits, zeroLed, shaped, readable, spelledAfter, numberIn}
+use Rattle.decimal.specs.Examples.{Examples}
+
+pub examples-hold : Examples
+unfolding ascii digits zeroLed shaped readable spelledAfter numberIn
+examples-hold = record {
+  zero = refl;
+  nine = refl;
+  ten = refl;
+  rate = refl;
+  largest = refl;
+  fiveDigits = refl;
+  empty = refl;
+  leadingZero = refl;
+  twoZeros = refl;
+  letter = refl;
+  sign = refl;
+  space = refl;
+  slash = refl;
+  colon = refl;
+  last = refl;
+}
