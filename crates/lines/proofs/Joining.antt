@@ -1,17 +1,12 @@
 -- A line can be put together again from its values. Assumes nothing.
 use mathlib.Core.Path.{_≡_, refl, ap, _∙_}
 use mathlib.Core.Bool.{Bool, true, false}
-use mathlib.Core.List.{List, [], _∷_, _++_, cons≢nil}
+use mathlib.Core.List.{List, [], _∷_, cons≢nil}
 use Prim.Native.Nat.{ℕ}
 use lib.Dec.{eqb}
 use borrow.Author.Tests.{eqb-true}
-use Rattle.lines.specs.Text.{before, pieces, fields}
-
--- values with one space between
-unfoldable pub joined : List (List ℕ) → List ℕ
-joined [] = []
-joined (p ∷ []) = p
-joined (p ∷ q ∷ qs) = p ++ 32 ∷ joined (q ∷ qs)
+use Rattle.lines.specs.Text.{before, pieces, fields, joined}
+use Rattle.lines.specs.Laws.{LineOfValues}
 
 -- one byte in front of some pieces
 join-before : (b : ℕ) (p : List ℕ) (ps : List (List ℕ)) → joined (before (eqb b 32) b (p ∷ ps)) ≡ b ∷ joined (p ∷ ps)
@@ -32,7 +27,7 @@ fields-some (b ∷ bs) e = by (eqb b 32) (pieces 32 ([] ∷ []) bs) e where
   by false [] q = cons≢nil q
   by false (p ∷ ps) q = cons≢nil q
 
-pub joined-fields : (s : List ℕ) → joined (fields s) ≡ s
+pub joined-fields : LineOfValues
 unfolding fields pieces joined
 joined-fields [] = refl
 joined-fields (b ∷ bs) = by (fields bs) refl (joined-fields bs) where

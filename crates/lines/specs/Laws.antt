@@ -1,11 +1,15 @@
--- What holds of lines, for the layers above. Assumes nothing: these are statements; proofs/LawsHold proves them.
+-- What holds of lines, for the layers above. Assumes nothing: these are statements; proofs/Joining and LawsHold prove them.
 use mathlib.Core.Path.{_≡_}
 use mathlib.Core.List.{List, [], _∷_}
 use Prim.Native.Nat.{ℕ, _≤_, _<_}
 use lib.ListN.{length, drop}
 use Rattle.lines.specs.declared.Cursor.{Cursor}
 use Rattle.lines.specs.declared.Line.the-variants.{Found, Nothing}
-use Rattle.lines.specs.Text.{lines, lineAt, partOf}
+use Rattle.lines.specs.Text.{fields, joined, lines, lineAt, partOf}
+
+-- a line is its values with one space between
+abbrev pub LineOfValues : Type 0
+LineOfValues = (line : List ℕ) → joined (fields line) ≡ line
 
 -- a line that is found at a position of a text: the cursor moves forward and stays within the text, the line stands where it says, and
 -- behind the next position stand the lines that follow it

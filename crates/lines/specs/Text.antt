@@ -1,7 +1,7 @@
 -- Lines of a text and values of a line (document 01, 'Rows of settings'). Assumes nothing: these are definitions.
 use Prim.Native.Nat.{ℕ, _+_, _-_, min}
 use mathlib.Core.Bool.{Bool, true, false, cond, _&&_}
-use mathlib.Core.List.{List, [], _∷_}
+use mathlib.Core.List.{List, [], _∷_, _++_}
 use lib.Dec.{leb, eqb}
 use lib.ListN.{length, take, drop}
 use Rattle.lines.specs.declared.Line.{Line}
@@ -22,6 +22,12 @@ pieces at rest (b ∷ bs) = before (eqb b at) b (pieces at rest bs)
 -- some may be empty.
 unfoldable pub fields : List ℕ → List (List ℕ)
 fields line = pieces 32 ([] ∷ []) line
+
+-- the line that has these values, one space between
+unfoldable pub joined : List (List ℕ) → List ℕ
+joined [] = []
+joined (f ∷ []) = f
+joined (f ∷ g ∷ gs) = f ++ 32 ∷ joined (g ∷ gs)
 
 -- "A line ends with LF; the last may lack it"; "an empty rest after an LF is no row"
 unfoldable pub lines : List ℕ → List (List ℕ)

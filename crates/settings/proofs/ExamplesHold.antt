@@ -2,15 +2,15 @@
 use mathlib.Core.Path.{refl}
 use Rattle.decimal.specs.Ascii.{ascii}
 use Rattle.decimal.specs.Number.{digits, zeroLed, shaped, readable, spelledAfter}
-use Rattle.lines.specs.Text.{before, pieces, fields}
-use Rattle.settings.specs.Columns.{table, names, nameLine, same, isNameLine}
+use Rattle.lines.specs.Text.{before, pieces, fields, joined}
+use Rattle.settings.specs.Columns.{table, nameLine, same, isNameLine}
 use Rattle.settings.specs.Refusals.{conflictPlace, numberOf, placeOf}
 use Rattle.settings.specs.Conditions.{firstBroken}
 use Rattle.settings.specs.Rows.{named, written, ranged, atOdds, valuesIn, settingsOf, conditions, rowOf, namedRow}
 use Rattle.settings.specs.Examples.{answered, under, asked, behind, Examples}
 
 pub examples-hold : Examples
-unfolding ascii digits zeroLed shaped readable spelledAfter before pieces fields table names nameLine same isNameLine conflictPlace numberOf placeOf firstBroken named written ranged atOdds valuesIn settingsOf conditions rowOf namedRow answered under asked behind
+unfolding ascii digits zeroLed shaped readable spelledAfter before pieces fields joined table nameLine same isNameLine conflictPlace numberOf placeOf firstBroken named written ranged atOdds valuesIn settingsOf conditions rowOf namedRow answered under asked behind
 examples-hold = record {
   names = refl;
   emptyInput = refl;

@@ -6,7 +6,7 @@ use lib.ListN.{length}
 use Rattle.settings.specs.declared.refusal.Verdict.the-variants.{Kept, Broken}
 use Rattle.settings.specs.declared.row.Settings.{Settings}
 use Rattle.settings.specs.declared.row.Row.the-variants.{Read, Refused}
-use Rattle.lines.specs.Text.{fields}
+use Rattle.lines.specs.Text.{fields, joined}
 use Rattle.settings.specs.Columns.{table}
 use Rattle.settings.specs.Conditions.{Unbroken}
 use Rattle.settings.specs.Rows.{written, ranged, atOdds, valuesIn, settingsOf, conditions, rowOf}
@@ -16,7 +16,7 @@ use Rattle.settings.proofs.Unbroken.{read-unbroken, unbroken-first, unb
 use Rattle.settings.proofs.Twelve.{elements, twelve}
 use Rattle.settings.proofs.Checks.{agrees, unbroken-checked, checked-ranged}
 use Rattle.settings.proofs.OneText.{same-values}
-use Rattle.lines.proofs.Joining.{joined, joined-fields}
+use Rattle.lines.proofs.Joining.{joined-fields}
 
 pub read-where-unbroken : ReadWhereUnbroken
 unfolding rowOf

@@ -2,10 +2,11 @@
 use Prim.Native.Nat.{ℕ}
 use Prim.Native.String.{String}
 use mathlib.Core.Bool.{Bool, true, false, _&&_}
-use mathlib.Core.List.{List, [], _∷_, _++_}
+use mathlib.Core.List.{List, [], _∷_, map}
 use lib.Dec.{leb, eqb}
 use lib.ListN.{getD}
 use Rattle.decimal.specs.Ascii.{ascii}
+use Rattle.lines.specs.Text.{joined}
 
 -- a column: its name, and the lowest and the highest value in its range
 pub record Column : Type 0 where
@@ -42,15 +43,9 @@ columnAt k = getD table k (column "" 0 0)
 abbrev pub within : Column → ℕ → Bool
 within c v = leb (c .lowest) v && leb v (c .highest)
 
--- the names of columns, one space between
-unfoldable pub names : List Column → List ℕ
-names [] = []
-names (c ∷ []) = ascii (c .name)
-names (c ∷ d ∷ ds) = ascii (c .name) ++ 32 ∷ names (d ∷ ds)
-
--- "BO SO H NR NE OWN SINK BURST RATE HEAD DATA ACK"
+-- "A line of names": `BO SO H NR NE OWN SINK BURST RATE HEAD DATA ACK`
 unfoldable pub nameLine : List ℕ
-nameLine = names table
+nameLine = joined (map (λ c. ascii (c .name)) table)
 
 -- two texts are the same, byte by byte
 unfoldable pub same : List ℕ → List ℕ → Bool

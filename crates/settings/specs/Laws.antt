@@ -31,7 +31,7 @@ pub record Checked (s : Settings) : Type 0 where
   pub depth : 0 < s .nr → 0 < s .h
   -- something senses
   pub sensors : 0 < s .ne + s .own
-  -- the sink stands in the tree, and below the root only where the root has another child
+  -- the sink stands in the tree, and below the root only where routers may have two child routers
   pub sinkDepth : s .sink ≤ s .h
   pub sinkBranches : 0 < s .sink → 2 ≤ s .nr
   -- a frame has at most 127 octets

@@ -34,8 +34,8 @@ ranged k [] vs = []
 ranged k (c ∷ cs) [] = []
 ranged k (c ∷ cs) (v ∷ vs) = condition (not (within c v)) (OutOfRange k v) ∷ ranged (suc k) cs vs
 
--- number 4: "values at odds: SO > BO; NR = 0 with H > 0, or NR > 0 with H = 0; NE = OWN = 0; SINK > H, or SINK > 0 with NR < 2;
--- HEAD + DATA > 127; in that order"
+-- number 4: "values at odds: SO > BO (place 2); NR = 0 with H > 0, or NR > 0 with H = 0 (4); NE = OWN = 0 (5); SINK > H, or SINK > 0
+-- with NR < 2 (7); HEAD + DATA > 127 (11); in that order"
 unfoldable pub atOdds : Settings → List (Condition Refusal)
 atOdds s =
     condition (ltb (s .bo) (s .so)) (AtOdds (Orders (s .so) (s .bo)))

@@ -11,7 +11,7 @@ returns : tie.Need-returns
 returns c = sym (lt-ltb 127 (c .before .args .head + c .before .args .payload) (omega (arith, c .if1 .taken)))
 
 returns-2 : tie.Need-returns-2
-returns-2 c = rest-passed 127 (c .before .args .head) (c .before .args .payload) (c .if1 .left)
+returns-2 c = rest-passed 127 (c .before .args .head) (c .before .args .payload) (omega (arith, c .if1 .left))
 
 pub too-long-spec : {M : Type 1} → statement M
 too-long-spec = tie.close (tie.spec returns returns-2)

@@ -1,6 +1,7 @@
 -- `settings::row::names_match` meets its contract. Assumes nothing.
-use Rattle.settings.specs.Columns.{isNameLine, nameLine, names, table}
+use Rattle.settings.specs.Columns.{isNameLine, nameLine, table}
 use Rattle.decimal.specs.Ascii.{ascii}
+use Rattle.lines.specs.Text.{joined}
 use Rattle.settings.proofs.Sameness.{same-decided}
 use borrow.Author.Needs.{needs}
 use Rattle.settings.proofs.row.names_match.Statement.{statement}
@@ -13,7 +14,7 @@ same-requires : tie.Need-same-requires
 same-requires c κs = search needs
 
 returns : tie.Need-returns
-unfolding isNameLine nameLine names table ascii
+unfolding isNameLine nameLine joined table ascii
 returns c = same-decided (c .same .result) (c .before .before .before .args .names .now) _ (c .same .ensures .0) (c .same .ensures .1)
 
 pub names-match-spec : {M : Type 1} → statement M
