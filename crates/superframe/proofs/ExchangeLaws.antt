@@ -6,7 +6,7 @@ use lib.Dec.{leb}
 use borrow.Author.Tests.{le-leb, lt-leb}
 use native.Mathlib.Omega.{arith}
 use native.Mathlib.Decide.{decLe}
-use Rattle.superframe.specs.Measures.{symbols}
+use Rattle.measure.specs.Measures.{symbols}
 use Rattle.superframe.specs.Exchange.{airTime, acknowledgement, spacing, exchange, exchangeFor}
 
 -- for document 01's counts of octets the answer is X

@@ -1,6 +1,6 @@
 -- Every figure of the table is the one that document 01 states. Assumes nothing.
 use mathlib.Core.Path.{refl}
-use Rattle.superframe.specs.Measures.{roundedUp}
+use Rattle.measure.specs.Measures.{roundedUp}
 use Rattle.superframe.specs.Orders.{beaconInterval, superframe, slot, contention, reservable}
 use Rattle.superframe.specs.Exchange.{airTime, acknowledgement, spacing, exchange}
 use Rattle.superframe.specs.Reservation.{framesIn, slotsFor, latency}

@@ -1,12 +1,16 @@
 -- Laws of the beacon interval, the superframe, its slots, the contention period and the reservable slots. Assumes nothing.
 use mathlib.Core.Path.{_≡_}
-use Prim.Native.Nat.{ℕ, _+_, _-_, _*_, _≤_}
+use Prim.Native.Nat.{ℕ, _+_, _-_, _*_, _%_, _^_, _≤_}
 use native.Mathlib.Omega.{arith}
-use native.Mathlib.Nat.{mul-le-mul-right}
+use native.Mathlib.Nat.{mod-eq-of-lt, mul-le-mul, mul-le-mul-right}
 use lib.Pow.{pow-mono, pow-pos}
-use Rattle.superframe.specs.declared.measure.Slots.{Slots}
+use Rattle.measure.specs.declared.Slots.{Slots}
 use Rattle.superframe.specs.Orders.{beaconInterval, superframe, slot, contention, reservable}
-use Rattle.superframe.proofs.Rounding.{rounded-up-holds, rounded-up-least}
+use Rattle.measure.proofs.Rounding.{rounded-up-holds, rounded-up-least}
+
+-- a constant of up to 1024 shifted by an order of up to 14 does not wrap
+pub shifted : (a : ℕ) {o : ℕ} → a ≤ 1024 → o ≤ 14 → a * 2 ^ o % 2 ^ 64 ≡ a * 2 ^ o
+shifted a {o} ha h = mod-eq-of-lt (omega (arith, mul-le-mul ha (pow-mono h)))
 
 -- no interval and no slot is empty, and none passes what order 14 gives
 pub interval-some : (bo : ℕ) → 960 ≤ beaconInterval bo .0

@@ -3,15 +3,15 @@ use mathlib.Core.Path.{_≡_, refl, ap}
 use Prim.Native.Nat.{ℕ, _+_, _-_, _*_, _^_, _≤_, _<_}
 use native.Mathlib.Omega.{arith}
 use native.Mathlib.Nat.{mul-le-mul-right, le-div-iff-mul-le, div-mul-le-self, div-zero, add-sub-of-le}
-use Rattle.superframe.specs.declared.measure.Symbols.{Symbols}
-use Rattle.superframe.specs.declared.measure.Slots.{Slots}
-use Rattle.superframe.specs.declared.measure.Frames.{Frames}
-use Rattle.superframe.specs.declared.measure.Rate.{Rate}
+use Rattle.measure.specs.declared.Symbols.{Symbols}
+use Rattle.measure.specs.declared.Slots.{Slots}
+use Rattle.measure.specs.declared.Frames.{Frames}
+use Rattle.measure.specs.declared.Rate.{Rate}
 use mathlib.Core.Bool.{Bool, true, false, cond}
 use lib.Dec.{ltb}
-use Rattle.superframe.specs.Measures.{frames, upTo64, within}
+use Rattle.measure.specs.Measures.{frames, upTo64, within}
 use Rattle.superframe.specs.Reservation.{framesIn, slotsFor, Smallest, latency}
-use Rattle.superframe.proofs.Rounding.{rounded-up-holds, rounded-up-least}
+use Rattle.measure.proofs.Rounding.{rounded-up-holds, rounded-up-least}
 
 -- k slots hold ρ frames exactly where they are as long as ρ exchanges
 pub held-long : (ρ : ℕ) (k : Slots) (s x : Symbols) → 0 < x .0 → ρ ≤ framesIn k s x .0 → ρ * x .0 ≤ k .0 * s .0

@@ -3,8 +3,8 @@
 use Prim.Native.Nat.{ℕ, _+_, _*_}
 use mathlib.Core.Bool.{Bool, cond, _&&_}
 use lib.Dec.{leb}
-use Rattle.superframe.specs.declared.measure.Symbols.{Symbols}
-use Rattle.superframe.specs.Measures.{symbols}
+use Rattle.measure.specs.declared.Symbols.{Symbols}
+use Rattle.measure.specs.Measures.{symbols}
 
 -- the frame on the air: preamble, delimiter and length, 6 octets, and then M octets; an octet is 2 symbols
 unfoldable pub airTime : ℕ → ℕ

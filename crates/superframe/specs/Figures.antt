@@ -4,7 +4,7 @@ use mathlib.Core.Bool.{true, false}
 use mathlib.Core.List.{List, [], _∷_, map}
 use Prim.Native.Nat.{ℕ}
 use Prim.Native.String.{String}
-use Rattle.superframe.specs.Measures.{frames, slots, perInterval}
+use Rattle.measure.specs.Measures.{frames, slots, perInterval}
 use Rattle.superframe.specs.Orders.{beaconInterval, superframe, slot, contention, reservable}
 use Rattle.superframe.specs.Exchange.{exchange}
 use Rattle.superframe.specs.Reservation.{framesIn, slotsFor, latency}

@@ -1,6 +1,4 @@
 -- What a reader must believe of time on the air, in document 01's order. Assumes nothing.
--- the measures and what leads from one to another
-pub mod Measures
 -- BI, SD, S, the contention period, L
 pub mod Orders
 -- X

@@ -1,9 +1,9 @@
 -- What the beacon order BO and the superframe order SO set (document 01, 'Time on the air'; 0 ≤ SO ≤ BO ≤ 14 there).
 -- Assumes nothing: these are definitions.
 use Prim.Native.Nat.{ℕ, _-_, _*_, _^_}
-use Rattle.superframe.specs.declared.measure.Symbols.{Symbols}
-use Rattle.superframe.specs.declared.measure.Slots.{Slots}
-use Rattle.superframe.specs.Measures.{symbols, slots, roundedUp}
+use Rattle.measure.specs.declared.Symbols.{Symbols}
+use Rattle.measure.specs.declared.Slots.{Slots}
+use Rattle.measure.specs.Measures.{symbols, slots, roundedUp}
 
 -- "beacon interval BI = 960 × 2^BO symbols"
 unfoldable pub beaconInterval : ℕ → Symbols

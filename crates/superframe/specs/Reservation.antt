@@ -1,11 +1,11 @@
 -- A reservation of k slots of S symbols, for exchanges of X symbols (document 01, 'Time on the air' and 'The tree and its loads').
 -- Assumes nothing: these are definitions.
 use Prim.Native.Nat.{_+_, _-_, _*_, _/_, _≤_}
-use Rattle.superframe.specs.declared.measure.Symbols.{Symbols}
-use Rattle.superframe.specs.declared.measure.Slots.{Slots}
-use Rattle.superframe.specs.declared.measure.Frames.{Frames}
-use Rattle.superframe.specs.declared.measure.Rate.{Rate}
-use Rattle.superframe.specs.Measures.{symbols, slots, frames, perInterval, roundedUp}
+use Rattle.measure.specs.declared.Symbols.{Symbols}
+use Rattle.measure.specs.declared.Slots.{Slots}
+use Rattle.measure.specs.declared.Frames.{Frames}
+use Rattle.measure.specs.declared.Rate.{Rate}
+use Rattle.measure.specs.Measures.{symbols, slots, frames, perInterval, roundedUp}
 
 -- "A reservation of k slots holds m = floor(k × S / X) exchanges."
 unfoldable pub framesIn : Slots → Symbols → Symbols → Frames

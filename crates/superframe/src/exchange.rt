@@ -2,7 +2,7 @@
 ghost use mathlib.Core.Path.{_≡_};
 ghost use Prim.Native.Nat.{_≤_};
 ghost use Rattle.superframe.specs.Exchange.{exchangeFor, acknowledgement, spacing};
-use crate::measure::Symbols;
+use measure::Symbols;
 
 // The longest exchange of all: 127 octets, acknowledged.
 const LONGEST: u64 = 340;

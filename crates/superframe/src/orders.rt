@@ -2,9 +2,9 @@
 ghost use mathlib.Core.Path.{_≡_};
 ghost use Prim.Native.Nat.{min, _≤_};
 ghost use Rattle.superframe.specs.Orders.{beaconInterval, superframe, slot, contention, reservable};
-use crate::measure::Slots;
-use crate::measure::Symbols;
-use crate::number::rounded_up;
+use measure::Slots;
+use measure::Symbols;
+use measure::number::rounded_up;
 
 // BI: from one beacon of a router to its next.
 pub fn beacon_interval(bo: u64) -> Symbols

@@ -2,16 +2,16 @@
 // can wait for it (document 01, 'Time on the air').
 ghost use mathlib.Core.Path.{_≡_};
 ghost use Prim.Native.Nat.{_*_, _<_, _^_};
-ghost use Rattle.superframe.specs.Measures.{upTo64, within, largest, frames, slots};
+ghost use Rattle.measure.specs.Measures.{upTo64, within, largest, frames, slots};
 ghost use Rattle.superframe.specs.Reservation.{framesIn, rate, slotsFor, Smallest, latency};
-use crate::measure::Frames;
-use crate::measure::Rate;
-use crate::measure::Slots;
-use crate::measure::Symbols;
-use crate::number::product;
-use crate::number::product_fits;
-use crate::number::rest;
-use crate::number::rounded_up;
+use measure::Frames;
+use measure::Rate;
+use measure::Slots;
+use measure::Symbols;
+use measure::number::product;
+use measure::number::product_fits;
+use measure::number::rest;
+use measure::number::rounded_up;
 
 // m: the exchanges of x symbols each that k slots of s symbols hold. Where k times s passes 64 bits: none.
 pub fn frames_in(k: Slots, s: Symbols, x: Symbols) -> Frames

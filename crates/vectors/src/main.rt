@@ -1,10 +1,8 @@
 // Runs the compiled functions of superframe and writes what they answer, one line a case. The file `stdout` beside src/ has what
 // document 01 and IEEE 802.15.4-2006 state, worked out apart from this code; the check compares the two.
 use libc::STDOUT_FILENO;
+use measure::Rate;
 use superframe::exchange::exchange_time;
-use superframe::measure::Rate;
-use superframe::measure::Slots;
-use superframe::measure::Symbols;
 use superframe::orders::beacon_interval;
 use superframe::orders::contention_slots;
 use superframe::orders::reservable_slots;

@@ -1,8 +1,8 @@
 -- `superframe::orders::beacon_interval` meets its contract. Assumes nothing.
 use mathlib.Core.Path.{ap}
-use Rattle.superframe.specs.Measures.{symbols}
+use Rattle.measure.specs.Measures.{symbols}
 use native.Mathlib.Omega.{arith}
-use Rattle.superframe.proofs.Limits.{shifted}
+use Rattle.superframe.proofs.OrderLaws.{shifted}
 use Rattle.superframe.specs.Orders.{beaconInterval}
 use borrow.Author.Needs.{needs}
 use Rattle.superframe.proofs.orders.beacon_interval.Statement.{statement}

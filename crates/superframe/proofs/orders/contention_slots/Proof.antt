@@ -1,6 +1,6 @@
 -- `superframe::orders::contention_slots` meets its contract. Assumes nothing.
 use mathlib.Core.Path.{ap, _∙_}
-use Rattle.superframe.specs.Measures.{slots}
+use Rattle.measure.specs.Measures.{slots}
 use Rattle.superframe.specs.Orders.{contention}
 use borrow.Author.Needs.{needs}
 use Rattle.superframe.proofs.orders.contention_slots.Statement.{statement}

@@ -1,8 +1,8 @@
 -- `superframe::orders::slot_length` meets its contract. Assumes nothing.
 use mathlib.Core.Path.{ap}
-use Rattle.superframe.specs.Measures.{symbols}
+use Rattle.measure.specs.Measures.{symbols}
 use native.Mathlib.Omega.{arith}
-use Rattle.superframe.proofs.Limits.{shifted}
+use Rattle.superframe.proofs.OrderLaws.{shifted}
 use Rattle.superframe.specs.Orders.{slot}
 use borrow.Author.Needs.{needs}
 use Rattle.superframe.proofs.orders.slot_length.Statement.{statement}

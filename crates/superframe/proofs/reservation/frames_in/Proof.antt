@@ -1,6 +1,6 @@
 -- `superframe::reservation::frames_in` meets its contract. Assumes nothing.
 use Rattle.superframe.proofs.ReservationLaws.{frames-none}
-use Rattle.superframe.proofs.Limits.{within-fits, within-past}
+use Rattle.measure.proofs.Limits.{within-fits, within-past}
 use Rattle.superframe.specs.Reservation.{framesIn}
 use mathlib.Core.Path.{sym}
 use Prim.Native.Nat.{_*_}

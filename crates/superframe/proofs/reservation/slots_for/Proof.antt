@@ -1,10 +1,10 @@
 -- `superframe::reservation::slots_for` meets its contract. Assumes nothing.
 use native.Mathlib.Omega.{arith}
 use Prim.Native.Nat.{_≤_, _*_, _^_}
-use Rattle.superframe.specs.Measures.{slots}
+use Rattle.measure.specs.Measures.{slots}
 use mathlib.Core.Path.{_≡_, ap, _∙_, sym}
 use Rattle.superframe.proofs.ReservationLaws.{slots-smallest}
-use Rattle.superframe.proofs.Limits.{within-fits, within-past}
+use Rattle.measure.proofs.Limits.{within-fits, within-past}
 use Rattle.superframe.specs.Reservation.{slotsFor}
 use borrow.Author.Tests.{ltb-true, ltb-false}
 use borrow.Author.Needs.{needs}
