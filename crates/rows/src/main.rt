@@ -6,7 +6,7 @@ use lines::Cursor;
 use lines::Line;
 use lines::next_line;
 use lines::part;
-use settings::refusal::Refusal;
+use refusals::Refusal;
 use settings::row::Row;
 use settings::row::Settings;
 use settings::row::names_match;

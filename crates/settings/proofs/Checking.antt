@@ -9,17 +9,12 @@ use lib.Seq.{drop-cons}
 use Rattle.decimal.specs.Number.{numberIn}
 use Rattle.decimal.specs.declared.Number.the-variants.{Value, Unreadable as None}
 use Rattle.decimal.proofs.Spelling.{number-read, number-none}
-use Rattle.settings.specs.declared.refusal.Refusal.{Refusal}
-use Rattle.settings.specs.declared.refusal.Refusal.the-variants.{Unreadable, OutOfRange}
-use Rattle.settings.specs.declared.refusal.Verdict.{Verdict}
-use Rattle.settings.specs.declared.refusal.Verdict.the-variants.{Kept, Broken}
+use Rattle.refusals.specs.declared.Refusal.the-variants.{Unreadable, OutOfRange}
+use Rattle.refusals.specs.declared.Verdict.the-variants.{Kept, Broken}
 use Rattle.settings.specs.Columns.{column, table, columnAt, within}
-use Rattle.settings.specs.Conditions.{Condition, condition, firstBroken}
+use Rattle.refusals.specs.Conditions.{condition, firstBroken}
 use Rattle.settings.specs.Rows.{written, ranged}
-
--- the first broken condition of a list
-abbrev pub verdict : List (Condition Refusal) → Verdict
-verdict cs = firstBroken Broken Kept cs
+use Rattle.refusals.proofs.Answering.{verdict}
 
 pub table-length : length table ≡ 12
 unfolding table

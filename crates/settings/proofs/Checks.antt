@@ -10,7 +10,7 @@ use lib.ListN.{length, getD}
 use borrow.Author.Tests.{leb-true, le-leb, ltb-false, lt-ltb, le-ltb, eqb-false, eq-eqb, ne-eqb, not-false}
 use Rattle.settings.specs.declared.row.Settings.{Settings}
 use Rattle.settings.specs.Columns.{table}
-use Rattle.settings.specs.Conditions.{Unbroken}
+use Rattle.refusals.specs.Conditions.{Unbroken}
 use Rattle.settings.specs.Rows.{ranged, atOdds, settingsOf}
 use Rattle.settings.specs.Laws.{Checked}
 use Rattle.settings.proofs.Twelve.{elements, twelve}

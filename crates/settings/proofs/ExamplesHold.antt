@@ -4,8 +4,8 @@ use Rattle.decimal.specs.Ascii.{ascii}
 use Rattle.decimal.specs.Number.{digits, zeroLed, shaped, readable, spelledAfter}
 use Rattle.lines.specs.Text.{before, pieces, fields, joined}
 use Rattle.settings.specs.Columns.{table, nameLine, same, isNameLine}
-use Rattle.settings.specs.Refusals.{conflictPlace, numberOf, placeOf}
-use Rattle.settings.specs.Conditions.{firstBroken}
+use Rattle.refusals.specs.Refusals.{conflictPlace, numberOf, placeOf}
+use Rattle.refusals.specs.Conditions.{firstBroken}
 use Rattle.settings.specs.Rows.{named, written, ranged, atOdds, valuesIn, settingsOf, conditions, rowOf, namedRow}
 use Rattle.settings.specs.Examples.{answered, under, asked, behind, Examples}
 

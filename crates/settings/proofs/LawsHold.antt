@@ -1,27 +1,45 @@
 -- The laws of specs/Laws. Assumes nothing.
 use mathlib.Core.Path.{_≡_, refl, ap, sym, _∙_, subst}
+use mathlib.Core.Bool.{Bool, true, false, false≢true}
 use mathlib.Core.List.{List, [], _∷_, _++_}
 use Prim.Native.Nat.{ℕ}
 use lib.ListN.{length}
-use Rattle.settings.specs.declared.refusal.Verdict.the-variants.{Kept, Broken}
+use Rattle.refusals.specs.declared.Refusal.{Refusal}
+use Rattle.refusals.specs.declared.Verdict.the-variants.{Kept, Broken}
 use Rattle.settings.specs.declared.row.Settings.{Settings}
+use Rattle.settings.specs.declared.row.Row.{Row}
 use Rattle.settings.specs.declared.row.Row.the-variants.{Read, Refused}
 use Rattle.lines.specs.Text.{fields, joined}
 use Rattle.settings.specs.Columns.{table}
-use Rattle.settings.specs.Conditions.{Unbroken}
+use Rattle.refusals.specs.Conditions.{Unbroken}
 use Rattle.settings.specs.Rows.{written, ranged, atOdds, valuesIn, settingsOf, conditions, rowOf}
 use Rattle.settings.specs.Laws.{Checked, ReadWhereUnbroken, ReadIsChecked, CheckedIsRead, OneRowForSettings}
 use Rattle.settings.proofs.RowCases.{values-length}
-use Rattle.settings.proofs.Unbroken.{read-unbroken, unbroken-first, unbroken-append, unbroken-left, unbroken-right}
+use Rattle.refusals.proofs.Unbroken.{unbroken-first, first-unbroken, unbroken-append, unbroken-left, unbroken-right}
 use Rattle.settings.proofs.Twelve.{elements, twelve}
 use Rattle.settings.proofs.Checks.{agrees, unbroken-checked, checked-ranged}
 use Rattle.settings.proofs.OneText.{same-values}
 use Rattle.lines.proofs.Joining.{joined-fields}
 
+-- a row that is refused is not read, and one that is read is read as one thing
+refused-read : (s : Settings) (r : Refusal) → Refused r ≡ Read s → ⊥
+refused-read s r e = false≢true (ap read e) where
+  read : Row → Bool
+  read (Read x) = true
+  read (Refused x) = false
+
+read-once : (x s : Settings) → Read x ≡ Read s → x ≡ s
+read-once x s e = ap settings e where
+  settings : Row → Settings
+  settings (Read y) = y
+  settings (Refused r) = x
+
 pub read-where-unbroken : ReadWhereUnbroken
 unfolding rowOf
 read-where-unbroken row s = (
-  read-unbroken (settingsOf (valuesIn row)) s (conditions row),
+  λ e.
+      (let h = first-unbroken Refused (Read (settingsOf (valuesIn row))) (Read s) (refused-read s) (conditions row) e in
+      (h .0, read-once (settingsOf (valuesIn row)) s (h .1))),
   λ h. unbroken-first Refused (Read (settingsOf (valuesIn row))) (conditions row) (h .0) ∙ ap Read (h .1),
 )
 

@@ -1,6 +1,4 @@
 -- Laws about the definitions of specs/. Assumes nothing.
--- the first broken condition of lists that follow one another
-pub mod Answering
 -- whether two texts are equal
 pub mod Sameness
 -- sums compared without being made
@@ -13,8 +11,6 @@ pub mod Ranges
 pub mod Taking
 -- what a row is, by the verdicts on its conditions
 pub mod RowCases
--- conditions of which none is broken
-pub mod Unbroken
 -- lists of twelve numbers
 pub mod Twelve
 -- numbers 3 and 4 as propositions

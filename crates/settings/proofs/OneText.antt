@@ -8,7 +8,7 @@ use borrow.Author.Tests.{not-false}
 use Rattle.decimal.specs.Number.{readable, spelled}
 use Rattle.decimal.proofs.OneSpelling.{one-spelling}
 use Rattle.settings.specs.Columns.{Column}
-use Rattle.settings.specs.Conditions.{Unbroken}
+use Rattle.refusals.specs.Conditions.{Unbroken}
 use Rattle.settings.specs.Rows.{written}
 
 -- readable values of the same numbers are the same

@@ -5,17 +5,16 @@ use mathlib.Core.List.{List, [], _∷_, _++_}
 use Prim.Native.Nat.{ℕ, suc, _+_}
 use lib.ListN.{length, length-map}
 use Rattle.decimal.specs.Number.{readable, spelled}
-use Rattle.settings.specs.declared.refusal.Refusal.{Refusal}
-use Rattle.settings.specs.declared.refusal.Refusal.the-variants.{Names, Unreadable}
-use Rattle.settings.specs.declared.refusal.Verdict.the-variants.{Kept, Broken}
+use Rattle.refusals.specs.declared.Refusal.{Refusal}
+use Rattle.refusals.specs.declared.Refusal.the-variants.{Names, Unreadable}
+use Rattle.refusals.specs.declared.Verdict.the-variants.{Kept, Broken}
 use Rattle.settings.specs.declared.row.Row.the-variants.{Read, Refused}
 use Rattle.lines.specs.Text.{fields}
 use Rattle.settings.specs.Columns.{Column, table, isNameLine}
-use Rattle.settings.specs.Conditions.{firstBroken}
+use Rattle.refusals.specs.Conditions.{firstBroken}
 use Rattle.settings.specs.Rows.{named, written, ranged, atOdds, valuesIn, settingsOf, conditions, rowOf, namedRow}
-use Rattle.settings.proofs.Answering.{first-append, byVerdict, first-verdict}
-use Rattle.settings.proofs.Checking.{verdict, table-length}
-use Rattle.settings.proofs.Taking.{broken-kept}
+use Rattle.refusals.proofs.Answering.{first-append, verdict, broken-kept, byVerdict, first-verdict}
+use Rattle.settings.proofs.Checking.{table-length}
 
 -- where number 2 is kept, there are as many values as columns
 pub written-length : (k : ℕ) (cs : List Column) (fs : List (List ℕ)) → verdict (written k cs fs) ≡ Kept → length fs ≡ length cs

@@ -1,6 +1,5 @@
 -- What stands after the first k values of a row were taken. Assumes nothing.
 use mathlib.Core.Path.{_≡_, refl, ap, sym, _∙_}
-use mathlib.Core.Bool.{Bool, true, false, false≢true}
 use mathlib.Core.List.{List, _++_, map, append-nil}
 use Prim.Native.Nat.{ℕ, suc, _+_, _-_, _≤_, _<_}
 use native.Mathlib.Omega.{arith}
@@ -11,22 +10,14 @@ use Rattle.bytes.specs.Bytes.{indexOf}
 use Rattle.decimal.specs.Number.{spelled, numberIn}
 use Rattle.decimal.specs.declared.Number.the-variants.{Value, Unreadable as None}
 use Rattle.decimal.proofs.Spelling.{number-read}
-use Rattle.settings.specs.declared.refusal.Refusal.{Refusal}
-use Rattle.settings.specs.declared.refusal.Refusal.the-variants.{Unreadable}
-use Rattle.settings.specs.declared.refusal.Verdict.{Verdict}
-use Rattle.settings.specs.declared.refusal.Verdict.the-variants.{Kept, Broken}
+use Rattle.refusals.specs.declared.Refusal.the-variants.{Unreadable}
+use Rattle.refusals.specs.declared.Verdict.the-variants.{Kept, Broken}
 use Rattle.lines.specs.Text.{fields}
 use Rattle.settings.specs.Columns.{table}
 use Rattle.settings.specs.Rows.{written, valuesIn}
 use Rattle.lines.proofs.Cutting.{fieldsFrom, fields-first, fields-step, fields-past}
-use Rattle.settings.proofs.Checking.{verdict, written-missing, written-none, written-value, written-after, written-all}
-
--- a refusal is not the answer that all is kept
-pub broken-kept : {A : Type 0} (r : Refusal) → Broken r ≡ Kept → A
-broken-kept r e = absurd (false≢true (ap kept e)) where
-  kept : Verdict → Bool
-  kept Kept = true
-  kept (Broken x) = false
+use Rattle.refusals.proofs.Answering.{verdict}
+use Rattle.settings.proofs.Checking.{written-missing, written-none, written-value, written-after, written-all}
 
 -- the first k values of a row are in numbers, the next one starts at a position, and what is left of number 2 are the conditions of
 -- the columns behind the first k

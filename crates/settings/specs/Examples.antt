@@ -7,7 +7,7 @@ use Rattle.decimal.specs.Ascii.{ascii}
 use Rattle.settings.specs.declared.row.Row.{Row}
 use Rattle.settings.specs.declared.row.Row.the-variants.{Read, Refused}
 use Rattle.settings.specs.Columns.{nameLine}
-use Rattle.settings.specs.Refusals.{numberOf, placeOf}
+use Rattle.refusals.specs.Refusals.{numberOf, placeOf}
 use Rattle.settings.specs.Rows.{rowOf, namedRow}
 
 -- number and place of a refusal; 0 and 0 where the row is read

@@ -7,7 +7,7 @@ use Rattle.settings.specs.declared.row.Settings.{Settings}
 use Rattle.settings.specs.declared.row.Row.the-variants.{Read}
 use Rattle.lines.specs.Text.{fields}
 use Rattle.settings.specs.Columns.{table}
-use Rattle.settings.specs.Conditions.{Unbroken}
+use Rattle.refusals.specs.Conditions.{Unbroken}
 use Rattle.settings.specs.Rows.{written, valuesIn, settingsOf, conditions, rowOf}
 
 -- settings that keep every range and are not at odds: numbers 3 and 4, as propositions

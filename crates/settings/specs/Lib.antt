@@ -1,10 +1,6 @@
 -- What a reader must believe of rows of settings, in reading order. Assumes nothing.
 -- the twelve columns, their names and ranges
 pub mod Columns
--- number and place of each refusal
-pub mod Refusals
--- conditions checked in order
-pub mod Conditions
 -- a row: values, conditions 1 to 4, the answer
 pub mod Rows
 -- what holds of rows, for the layers above

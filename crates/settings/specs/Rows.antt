@@ -6,15 +6,15 @@ use mathlib.Core.List.{List, [], _∷_, _++_, map}
 use lib.Dec.{ltb, eqb}
 use lib.ListN.{getD}
 use Rattle.decimal.specs.Number.{readable, spelled}
-use Rattle.settings.specs.declared.refusal.Refusal.{Refusal}
-use Rattle.settings.specs.declared.refusal.Refusal.the-variants.{Names, Unreadable, OutOfRange, AtOdds}
-use Rattle.settings.specs.declared.refusal.Conflict.the-variants.{Orders, Routers, Sensors, SinkDepth, SinkBranches, FrameLength}
+use Rattle.refusals.specs.declared.Refusal.{Refusal}
+use Rattle.refusals.specs.declared.Refusal.the-variants.{Names, Unreadable, OutOfRange, AtOdds}
+use Rattle.refusals.specs.declared.Conflict.the-variants.{Orders, Routers, Sensors, SinkDepth, SinkBranches, FrameLength}
 use Rattle.settings.specs.declared.row.Settings.{Settings}
 use Rattle.settings.specs.declared.row.Row.{Row}
 use Rattle.settings.specs.declared.row.Row.the-variants.{Read, Refused}
 use Rattle.lines.specs.Text.{fields}
 use Rattle.settings.specs.Columns.{Column, table, within, isNameLine}
-use Rattle.settings.specs.Conditions.{Condition, condition, firstBroken}
+use Rattle.refusals.specs.Conditions.{Condition, condition, firstBroken}
 
 -- number 1: "name line differs or is missing"
 unfoldable pub named : List ℕ → List (Condition Refusal)

@@ -2,13 +2,13 @@
 ghost use mathlib.Core.Path.{_≡_};
 ghost use Prim.Native.Nat.{_+_, _<_};
 ghost use lib.ListN.{length};
-ghost use Rattle.settings.specs.declared.refusal.Verdict.the-variants.{Kept, Broken};
-ghost use Rattle.settings.specs.declared.refusal.Refusal.the-variants.{OutOfRange};
+ghost use Rattle.refusals.specs.declared.Verdict.the-variants.{Kept, Broken};
+ghost use Rattle.refusals.specs.declared.Refusal.the-variants.{OutOfRange};
 ghost use Rattle.settings.specs.Columns.{table, columnAt, within};
-ghost use Rattle.settings.specs.Conditions.{firstBroken};
+ghost use Rattle.refusals.specs.Conditions.{firstBroken};
 ghost use Rattle.settings.specs.Rows.{ranged};
-use crate::refusal::Refusal;
-use crate::refusal::Verdict;
+use refusals::Refusal;
+use refusals::Verdict;
 
 // The lowest and the highest value of a column.
 struct Range(u64, u64);

@@ -3,7 +3,6 @@
 //
 // No public function has a `requires`: each answers every argument, as an equation with a definition of specs/ says. Nothing is
 // written anywhere.
-pub mod refusal; // refusals 1 to 4, their numbers and places
 pub mod row; // the name line, a row, both together
 mod values; // the values of a row: number 2
 mod columns; // their ranges: number 3

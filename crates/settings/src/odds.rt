@@ -3,14 +3,14 @@ ghost use mathlib.Core.Path.{_≡_};
 ghost use mathlib.Core.Bool.{_&&_};
 ghost use Prim.Native.Nat.{_+_};
 ghost use lib.Dec.{ltb, eqb};
-ghost use Rattle.settings.specs.declared.refusal.Verdict.the-variants.{Kept, Broken};
-ghost use Rattle.settings.specs.declared.refusal.Refusal.the-variants.{AtOdds};
-ghost use Rattle.settings.specs.Conditions.{firstBroken};
+ghost use Rattle.refusals.specs.declared.Verdict.the-variants.{Kept, Broken};
+ghost use Rattle.refusals.specs.declared.Refusal.the-variants.{AtOdds};
+ghost use Rattle.refusals.specs.Conditions.{firstBroken};
 ghost use Rattle.settings.specs.Rows.{atOdds};
-use crate::refusal::Conflict;
-use crate::refusal::Refusal;
-use crate::refusal::Verdict;
 use crate::row::Settings;
+use refusals::Conflict;
+use refusals::Refusal;
+use refusals::Verdict;
 
 // The most octets that a frame has.
 const LONGEST_FRAME: u64 = 127;

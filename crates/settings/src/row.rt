@@ -4,9 +4,9 @@ ghost use Rattle.settings.specs.Columns.{isNameLine};
 ghost use Rattle.settings.specs.Rows.{settingsOf, rowOf, namedRow};
 use crate::columns::in_range;
 use crate::odds::agree;
-use crate::refusal::Refusal;
-use crate::refusal::Verdict;
 use crate::values::read_values;
+use refusals::Refusal;
+use refusals::Verdict;
 
 // The values of a row, by its columns: BO SO H NR NE OWN SINK BURST RATE HEAD DATA ACK.
 pub struct Settings {

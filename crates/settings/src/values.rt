@@ -1,15 +1,15 @@
 // The values of a row: number 2 of document 01's table.
 ghost use mathlib.Core.Path.{_≡_};
 ghost use Prim.Native.Nat.{_+_, _≤_};
-ghost use Rattle.settings.specs.declared.refusal.Verdict.the-variants.{Kept, Broken};
-ghost use Rattle.settings.specs.declared.refusal.Refusal.the-variants.{Unreadable};
+ghost use Rattle.refusals.specs.declared.Verdict.the-variants.{Kept, Broken};
+ghost use Rattle.refusals.specs.declared.Refusal.the-variants.{Unreadable};
 ghost use Rattle.lines.specs.Text.{fields};
 ghost use Rattle.settings.specs.Columns.{table};
-ghost use Rattle.settings.specs.Conditions.{firstBroken};
+ghost use Rattle.refusals.specs.Conditions.{firstBroken};
 ghost use Rattle.settings.specs.Rows.{written, valuesIn};
-use crate::refusal::Refusal;
-use crate::refusal::Verdict;
 use decimal::Number;
+use refusals::Refusal;
+use refusals::Verdict;
 
 const SPACE: u8 = 32;
 

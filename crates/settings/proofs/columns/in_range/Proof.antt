@@ -1,5 +1,6 @@
 -- `settings::columns::in_range` meets its contract. Assumes nothing.
-use Rattle.settings.proofs.Checking.{verdict, ranged-out, ranged-in, ranged-all}
+use Rattle.refusals.proofs.Answering.{verdict}
+use Rattle.settings.proofs.Checking.{ranged-out, ranged-in, ranged-all}
 use Rattle.settings.specs.Rows.{ranged}
 use Rattle.settings.specs.Columns.{table}
 use lib.ListN.{drop}

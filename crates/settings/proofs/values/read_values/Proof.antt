@@ -4,7 +4,8 @@ use Prim.Native.Nat.{_-_}
 use native.Mathlib.Omega.{arith}
 use borrow.Author.Needs.{needs}
 use Rattle.lines.proofs.LineLaws.{found-in-rest}
-use Rattle.settings.proofs.Taking.{broken-kept, Taken, taken-none, taken-missing, taken-unreadable, taken-value, taken-after, taken-all}
+use Rattle.refusals.proofs.Answering.{broken-kept}
+use Rattle.settings.proofs.Taking.{Taken, taken-none, taken-missing, taken-unreadable, taken-value, taken-after, taken-all}
 use Rattle.settings.proofs.values.read_values.Statement.{statement}
 use Rattle.settings.proofs.values.read_values.Tie as tie
 

@@ -1,17 +1,42 @@
-// Refusals 1 to 4 of document 01's table.
+// Refusals 1 to 7 of document 01's table ('Rows of settings'): every reason for which settings are refused, in one place. Numbers 8 and
+// 9 are of lent memory and of a program's input.
+//
+// No public function has a `requires`: each answers every argument, as an equation with a definition of specs/ says.
 ghost use mathlib.Core.Path.{_≡_};
-ghost use Rattle.settings.specs.Refusals.{numberOf, placeOf, conflictPlace};
+ghost use Rattle.refusals.specs.Refusals.{numberOf, placeOf, conflictPlace};
+use measure::Slots;
 
-// Why a row is refused. Columns count from 1.
+// Why settings are refused, with the values concerned. Columns count from 1.
 pub enum Refusal {
     // 1: the name line differs or is missing.
     Names,
     // 2: the value of a column is unreadable or missing; column 13 is text after the last.
-    Unreadable { column: u32 },
+    Unreadable {
+        column: u32,
+    },
     // 3: the value of a column is outside its range.
-    OutOfRange { column: u32, value: u64 },
+    OutOfRange {
+        column: u32,
+        value: u64,
+    },
     // 4: values at odds with each other.
     AtOdds(Conflict),
+    // 5: NE + NR > 7 reservations.
+    Reservations {
+        ne: u64,
+        nr: u64,
+    },
+    // 6: more routers than superframes fit the beacon interval, 2^(BO − SO).
+    Superframes {
+        routers: u64,
+        superframes: u64,
+    },
+    // 7: the slots used exceed L, the reservable ones, at the first such depth.
+    SlotsUsed {
+        depth: u32,
+        used: Slots,
+        reservable: Slots,
+    },
 }
 
 // Which values are at odds with each other, and what they are.
@@ -43,6 +68,16 @@ impl Refusal {
                 value: _,
             } => 3,
             Refusal::AtOdds(_) => 4,
+            Refusal::Reservations { ne: _, nr: _ } => 5,
+            Refusal::Superframes {
+                routers: _,
+                superframes: _,
+            } => 6,
+            Refusal::SlotsUsed {
+                depth: _,
+                used: _,
+                reservable: _,
+            } => 7,
         }
     }
 
@@ -55,6 +90,16 @@ impl Refusal {
             Refusal::Unreadable { column } => column,
             Refusal::OutOfRange { column, value: _ } => column,
             Refusal::AtOdds(conflict) => conflict.place(),
+            Refusal::Reservations { ne: _, nr: _ } => 0,
+            Refusal::Superframes {
+                routers: _,
+                superframes: _,
+            } => 0,
+            Refusal::SlotsUsed {
+                depth,
+                used: _,
+                reservable: _,
+            } => depth,
         }
     }
 }

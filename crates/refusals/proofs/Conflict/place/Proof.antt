@@ -1,8 +1,8 @@
--- `settings::refusal::Conflict::place` meets its contract. Assumes nothing.
-use Rattle.settings.specs.Refusals.{conflictPlace}
+-- `refusals::Conflict::place` meets its contract. Assumes nothing.
+use Rattle.refusals.specs.Refusals.{conflictPlace}
 use borrow.Author.Needs.{needs}
-use Rattle.settings.proofs.refusal.Conflict.place.Statement.{statement}
-use Rattle.settings.proofs.refusal.Conflict.place.Tie as tie
+use Rattle.refusals.proofs.Conflict.place.Statement.{statement}
+use Rattle.refusals.proofs.Conflict.place.Tie as tie
 
 enum-told : tie.Need-enum-told
 enum-told c = search needs

@@ -1,9 +1,9 @@
 -- Number and place of each refusal (document 01, the table of 'Rows of settings'). Assumes nothing: these are definitions.
 use Prim.Native.Nat.{ℕ}
-use Rattle.settings.specs.declared.refusal.Refusal.{Refusal}
-use Rattle.settings.specs.declared.refusal.Refusal.the-variants.{Names, Unreadable, OutOfRange, AtOdds}
-use Rattle.settings.specs.declared.refusal.Conflict.{Conflict}
-use Rattle.settings.specs.declared.refusal.Conflict.the-variants.{Orders, Routers, Sensors, SinkDepth, SinkBranches, FrameLength}
+use Rattle.refusals.specs.declared.Refusal.{Refusal}
+use Rattle.refusals.specs.declared.Refusal.the-variants.{Names, Unreadable, OutOfRange, AtOdds, Reservations, Superframes, SlotsUsed}
+use Rattle.refusals.specs.declared.Conflict.{Conflict}
+use Rattle.refusals.specs.declared.Conflict.the-variants.{Orders, Routers, Sensors, SinkDepth, SinkBranches, FrameLength}
 
 -- "SO > BO (place 2); NR = 0 with H > 0, or NR > 0 with H = 0 (4); NE = OWN = 0 (5); SINK > H, or SINK > 0 with NR < 2 (7);
 -- HEAD + DATA > 127 (11)"
@@ -21,10 +21,16 @@ numberOf Names = 1
 numberOf (Unreadable column) = 2
 numberOf (OutOfRange column value) = 3
 numberOf (AtOdds conflict) = 4
+numberOf (Reservations ne nr) = 5
+numberOf (Superframes routers superframes) = 6
+numberOf (SlotsUsed depth used reservable) = 7
 
--- the place of a refusal: 0, "its column, 13 for text after", "its column", "as given"
+-- the place of a refusal: 0, "its column, 13 for text after", "its column", "as given", 0, 0, "first such depth"
 unfoldable pub placeOf : Refusal → ℕ
 placeOf Names = 0
 placeOf (Unreadable column) = column
 placeOf (OutOfRange column value) = column
 placeOf (AtOdds conflict) = conflictPlace conflict
+placeOf (Reservations ne nr) = 0
+placeOf (Superframes routers superframes) = 0
+placeOf (SlotsUsed depth used reservable) = depth

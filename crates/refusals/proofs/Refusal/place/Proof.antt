@@ -1,8 +1,8 @@
--- `settings::refusal::Refusal::place` meets its contract. Assumes nothing.
-use Rattle.settings.specs.Refusals.{placeOf}
+-- `refusals::Refusal::place` meets its contract. Assumes nothing.
+use Rattle.refusals.specs.Refusals.{placeOf}
 use borrow.Author.Needs.{needs}
-use Rattle.settings.proofs.refusal.Refusal.place.Statement.{statement}
-use Rattle.settings.proofs.refusal.Refusal.place.Tie as tie
+use Rattle.refusals.proofs.Refusal.place.Statement.{statement}
+use Rattle.refusals.proofs.Refusal.place.Tie as tie
 
 enum-told : tie.Need-enum-told
 enum-told c = search needs
@@ -18,6 +18,15 @@ enum-known-self-3 c = search needs
 
 place-requires : tie.Need-place-requires
 place-requires c κs = search needs
+
+enum-told-2 : tie.Need-enum-told-2
+enum-told-2 c = search needs
+
+enum-told-3 : tie.Need-enum-told-3
+enum-told-3 c = search needs
+
+enum-known-self-4 : tie.Need-enum-known-self-4
+enum-known-self-4 c = search needs
 
 returns : tie.Need-returns
 unfolding placeOf
@@ -35,6 +44,18 @@ returns-4 : tie.Need-returns-4
 unfolding placeOf
 returns-4 c = rw (c .before .before .self3 .given .1) (c .place .ensures)
 
+returns-5 : tie.Need-returns-5
+unfolding placeOf
+returns-5 c = rw (c .enum-told2 .given .1)
+
+returns-6 : tie.Need-returns-6
+unfolding placeOf
+returns-6 c = rw (c .enum-told3 .given .1)
+
+returns-7 : tie.Need-returns-7
+unfolding placeOf
+returns-7 c = rw (c .before .self4 .given .1)
+
 pub place-spec : {M : Type 1} → statement M
 place-spec =
     tie.close
@@ -44,7 +65,13 @@ place-spec =
     enum-known-self-2
     enum-known-self-3
     place-requires
+    enum-told-2
+    enum-told-3
+    enum-known-self-4
     returns
     returns-2
     returns-3
-    returns-4)
+    returns-4
+    returns-5
+    returns-6
+    returns-7)
