@@ -1,6 +1,6 @@
 -- Answers where a number may pass 64 bits. Assumes nothing.
 use mathlib.Core.Path.{_≡_, sym, ap, _∙_}
-use Prim.Native.Nat.{ℕ, _-_, _*_, _/_, _^_, _≤_, _<_}
+use Prim.Native.Nat.{ℕ, _*_, _/_, _^_, _≤_, _<_}
 use mathlib.Core.Bool.{true}
 use lib.Dec.{leb, ltb}
 use native.Mathlib.Decide.{decLe}

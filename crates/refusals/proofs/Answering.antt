@@ -1,5 +1,5 @@
 -- The first broken condition of lists that follow one another, and the verdict on a list. Assumes nothing.
-use mathlib.Core.Path.{_≡_, refl, ap}
+use mathlib.Core.Path.{_≡_, refl, ap, sym, _∙_}
 use mathlib.Core.Bool.{Bool, true, false, cond, false≢true}
 use mathlib.Core.List.{List, [], _∷_, _++_}
 use Rattle.refusals.specs.declared.Refusal.{Refusal}
@@ -26,11 +26,11 @@ broken-kept r e = absurd (false≢true (ap kept e)) where
   kept (Broken x) = false
 
 -- the answer that a verdict makes
-unfoldable pub byVerdict : {A : Type 0} → (Refusal → A) → A → Verdict → A
+unfoldable byVerdict : {A : Type 0} → (Refusal → A) → A → Verdict → A
 byVerdict f a Kept = a
 byVerdict f a (Broken r) = f r
 
-pub first-verdict : {A : Type 0} (f : Refusal → A) (a : A) (xs : List (Condition Refusal))
+first-verdict : {A : Type 0} (f : Refusal → A) (a : A) (xs : List (Condition Refusal))
     → firstBroken f a xs ≡ byVerdict f a (verdict xs)
 unfolding firstBroken byVerdict
 first-verdict f a [] = refl
@@ -39,3 +39,21 @@ first-verdict f a (x ∷ xs) = by (x .broken) (first-verdict f a xs) where
       → cond b (f (x .refusal)) (firstBroken f a xs) ≡ byVerdict f a (cond b (Broken (x .refusal)) (verdict xs))
   by true e = refl
   by false e = e
+
+module _ {A : Type 0} (f : Refusal → A) (a : A) (xs : List (Condition Refusal)) where
+  -- the answer where a refusal is the verdict, and where all is kept
+  pub answer-broken : (r : Refusal) → verdict xs ≡ Broken r → firstBroken f a xs ≡ f r
+  unfolding byVerdict
+  answer-broken r e = first-verdict f a xs ∙ ap (byVerdict f a) e
+
+  pub answer-kept : verdict xs ≡ Kept → firstBroken f a xs ≡ a
+  unfolding byVerdict
+  answer-kept e = first-verdict f a xs ∙ ap (byVerdict f a) e
+
+module _ {A : Type 0} (f : Refusal → A) (a : A) (xs ys : List (Condition Refusal)) where
+  -- the answer of two lists where the first has a refusal, and where it is kept
+  pub first-part-answers : (r : Refusal) → verdict xs ≡ Broken r → f r ≡ firstBroken f a (xs ++ ys)
+  first-part-answers r e = sym (first-append f a xs ys ∙ answer-broken f (firstBroken f a ys) xs r e)
+
+  pub second-part-answers : verdict xs ≡ Kept → firstBroken f a ys ≡ firstBroken f a (xs ++ ys)
+  second-part-answers e = sym (first-append f a xs ys ∙ answer-kept f (firstBroken f a ys) xs e)

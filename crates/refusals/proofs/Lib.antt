@@ -1,5 +1,7 @@
 -- Laws about the definitions of specs/. Assumes nothing.
--- the first broken condition of lists that follow one another, and of a verdict
+-- the first broken condition of lists that follow one another, and the verdict on a list
 pub mod Answering
 -- conditions of which none is broken
 pub mod Unbroken
+-- the examples of specs/Examples
+pub mod ExamplesHold

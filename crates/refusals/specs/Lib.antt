@@ -3,3 +3,5 @@
 pub mod Refusals
 -- conditions checked in order
 pub mod Conditions
+-- small lists of conditions and what they answer, computed
+pub mod Examples

@@ -1,4 +1,4 @@
-// Runs the compiled functions of settings on texts at the edges of 'Rows of settings' and writes what they answer. The file `stdout`
+// Runs the compiled functions of row on texts at the edges of 'Rows of settings' and writes what they answer. The file `stdout`
 // beside src/ has what document 01 asks, worked out by another implementation; the check compares the two.
 use libc::STDIN_FILENO;
 use libc::STDOUT_FILENO;
@@ -7,11 +7,11 @@ use lines::Line;
 use lines::next_line;
 use lines::part;
 use refusals::Refusal;
-use settings::row::Row;
-use settings::row::Settings;
-use settings::row::names_match;
-use settings::row::read_named_row;
-use settings::row::read_row;
+use row::Row;
+use row::names_match;
+use row::read_named_row;
+use row::read_row;
+use settings::Settings;
 
 fn main() {
     texts();

@@ -1,12 +1,10 @@
 -- The twelve columns (document 01, 'Rows of settings'). Assumes nothing: these are definitions.
 use Prim.Native.Nat.{ℕ}
 use Prim.Native.String.{String}
-use mathlib.Core.Bool.{Bool, true, false, _&&_}
-use mathlib.Core.List.{List, [], _∷_, map}
-use lib.Dec.{leb, eqb}
+use mathlib.Core.Bool.{Bool, _&&_}
+use mathlib.Core.List.{List, [], _∷_}
+use lib.Dec.{leb}
 use lib.ListN.{getD}
-use Rattle.decimal.specs.Ascii.{ascii}
-use Rattle.lines.specs.Text.{joined}
 
 -- a column: its name, and the lowest and the highest value in its range
 pub record Column : Type 0 where
@@ -42,18 +40,3 @@ columnAt k = getD table k (column "" 0 0)
 -- a value is in the column's range
 abbrev pub within : Column → ℕ → Bool
 within c v = leb (c .lowest) v && leb v (c .highest)
-
--- "A line of names": `BO SO H NR NE OWN SINK BURST RATE HEAD DATA ACK`
-unfoldable pub nameLine : List ℕ
-nameLine = joined (map (λ c. ascii (c .name)) table)
-
--- two texts are the same, byte by byte
-unfoldable pub same : List ℕ → List ℕ → Bool
-same [] [] = true
-same [] (c ∷ cs) = false
-same (b ∷ bs) [] = false
-same (b ∷ bs) (c ∷ cs) = eqb b c && same bs cs
-
--- a line, without its LF, is the name line
-unfoldable pub isNameLine : List ℕ → Bool
-isNameLine line = same line nameLine

@@ -1,14 +1,11 @@
--- What holds of rows, for the layers above. Assumes nothing: these are statements; proofs/LawsHold proves them.
+-- What holds of settings, for the layers above. Assumes nothing: these are statements; proofs/LawsHold proves them.
 use mathlib.Core.Path.{_≡_}
 use mathlib.Core.Logic.{_↔_}
-use mathlib.Core.List.{List}
-use Prim.Native.Nat.{ℕ, _+_, _≤_, _<_}
-use Rattle.settings.specs.declared.row.Settings.{Settings}
-use Rattle.settings.specs.declared.row.Row.the-variants.{Read}
-use Rattle.lines.specs.Text.{fields}
-use Rattle.settings.specs.Columns.{table}
-use Rattle.refusals.specs.Conditions.{Unbroken}
-use Rattle.settings.specs.Rows.{written, valuesIn, settingsOf, conditions, rowOf}
+use Prim.Native.Nat.{_+_, _≤_, _<_}
+use Rattle.refusals.specs.declared.Verdict.the-variants.{Kept, Broken}
+use Rattle.refusals.specs.Conditions.{firstBroken, Unbroken}
+use Rattle.settings.specs.declared.Settings.{Settings}
+use Rattle.settings.specs.Checks.{checks}
 
 -- settings that keep every range and are not at odds: numbers 3 and 4, as propositions
 pub record Checked (s : Settings) : Type 0 where
@@ -37,22 +34,10 @@ pub record Checked (s : Settings) : Type 0 where
   -- a frame has at most 127 octets
   pub frame : s .head + s .payload ≤ 127
 
--- a row is read exactly where none of its conditions is broken, and then as what it spells
-abbrev pub ReadWhereUnbroken : Type 0
-ReadWhereUnbroken =
-    (row : List ℕ) (s : Settings)
-    → (rowOf row ≡ Read s) ↔ (Unbroken (conditions row) × (settingsOf (valuesIn row) ≡ s))
+-- no condition of numbers 3 and 4 is broken exactly where settings are checked
+abbrev pub UnbrokenWhereChecked : Type 0
+UnbrokenWhereChecked = (s : Settings) → Unbroken (checks s) ↔ Checked s
 
--- what is read is checked
-abbrev pub ReadIsChecked : Type 0
-ReadIsChecked = (row : List ℕ) (s : Settings) → rowOf row ≡ Read s → Checked s
-
--- twelve readable values that are checked are read
-abbrev pub CheckedIsRead : Type 0
-CheckedIsRead =
-    (row : List ℕ) → Unbroken (written 1 table (fields row)) → Checked (settingsOf (valuesIn row))
-    → rowOf row ≡ Read (settingsOf (valuesIn row))
-
--- two different rows never give the same settings
-abbrev pub OneRowForSettings : Type 0
-OneRowForSettings = (a b : List ℕ) (s : Settings) → rowOf a ≡ Read s → rowOf b ≡ Read s → a ≡ b
+-- and so the answer is that all is kept exactly there
+abbrev pub KeptWhereChecked : Type 0
+KeptWhereChecked = (s : Settings) → (firstBroken Broken Kept (checks s) ≡ Kept) ↔ Checked s

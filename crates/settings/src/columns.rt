@@ -6,7 +6,7 @@ ghost use Rattle.refusals.specs.declared.Verdict.the-variants.{Kept, Broken};
 ghost use Rattle.refusals.specs.declared.Refusal.the-variants.{OutOfRange};
 ghost use Rattle.settings.specs.Columns.{table, columnAt, within};
 ghost use Rattle.refusals.specs.Conditions.{firstBroken};
-ghost use Rattle.settings.specs.Rows.{ranged};
+ghost use Rattle.settings.specs.Checks.{ranged};
 use refusals::Refusal;
 use refusals::Verdict;
 

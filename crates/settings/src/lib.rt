@@ -1,9 +1,62 @@
-// Rows of settings (document 01, 'Rows of settings'): from bytes to twelve checked values, or to the first refusal of numbers 1 to 4
-// with its place.
+// Settings (document 01, 'Rows of settings'): twelve values, and whether they keep the conditions of numbers 3 and 4. Nothing here
+// knows how they are written.
 //
 // No public function has a `requires`: each answers every argument, as an equation with a definition of specs/ says. Nothing is
 // written anywhere.
-pub mod row; // the name line, a row, both together
-mod values; // the values of a row: number 2
-mod columns; // their ranges: number 3
+ghost use mathlib.Core.Path.{_≡_};
+ghost use Rattle.refusals.specs.declared.Verdict.the-variants.{Kept, Broken};
+ghost use Rattle.refusals.specs.Conditions.{firstBroken};
+ghost use Rattle.settings.specs.Checks.{valuesOf, checks};
+use crate::columns::in_range;
+use crate::odds::agree;
+use refusals::Verdict;
+
+mod columns; // the values' ranges: number 3
 mod odds; // values at odds: number 4
+
+// The values of a row, by its columns: BO SO H NR NE OWN SINK BURST RATE HEAD DATA ACK.
+pub struct Settings {
+    pub bo: u64,
+    pub so: u64,
+    pub h: u64,
+    pub nr: u64,
+    pub ne: u64,
+    pub own: u64,
+    pub sink: u64,
+    pub burst: u64,
+    pub rate: u64,
+    pub head: u64,
+    pub payload: u64,
+    pub ack: u64,
+}
+
+// Whether settings keep every range and are not at odds, or the first refusal of numbers 3 and 4.
+pub fn check(s: Settings) -> Verdict
+    ensures { λ r. ⌜ r ≡ firstBroken Broken Kept (checks s) ⌝ }
+{
+    let verdict = in_range(values_of(s));
+    if let Verdict::Broken(_) = verdict {
+        return verdict;
+    }
+    agree(s)
+}
+
+// The values in the columns' order.
+fn values_of(s: Settings) -> [u64; 12]
+    ensures { λ r. ⌜ r ≡ valuesOf s ⌝ }
+{
+    [
+        s.bo,
+        s.so,
+        s.h,
+        s.nr,
+        s.ne,
+        s.own,
+        s.sink,
+        s.burst,
+        s.rate,
+        s.head,
+        s.payload,
+        s.ack,
+    ]
+}

@@ -1,6 +1,6 @@
 -- Laws of the beacon interval, the superframe, its slots, the contention period and the reservable slots. Assumes nothing.
 use mathlib.Core.Path.{_≡_}
-use Prim.Native.Nat.{ℕ, _+_, _-_, _*_, _%_, _^_, _≤_}
+use Prim.Native.Nat.{ℕ, _+_, _*_, _%_, _^_, _≤_}
 use native.Mathlib.Omega.{arith}
 use native.Mathlib.Nat.{mod-eq-of-lt, mul-le-mul, mul-le-mul-right}
 use lib.Pow.{pow-mono, pow-pos}

@@ -1,7 +1,7 @@
 -- `settings::columns::in_range` meets its contract. Assumes nothing.
 use Rattle.refusals.proofs.Answering.{verdict}
-use Rattle.settings.proofs.Checking.{ranged-out, ranged-in, ranged-all}
-use Rattle.settings.specs.Rows.{ranged}
+use Rattle.settings.proofs.Ranging.{ranged-out, ranged-in, ranged-all}
+use Rattle.settings.specs.Checks.{ranged}
 use Rattle.settings.specs.Columns.{table}
 use lib.ListN.{drop}
 use borrow.Author.Tests.{not-true, not-false}

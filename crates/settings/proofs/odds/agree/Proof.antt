@@ -1,6 +1,6 @@
 -- `settings::odds::agree` meets its contract. Assumes nothing.
 use native.Mathlib.Omega.{arith}
-use Rattle.settings.specs.Rows.{atOdds}
+use Rattle.settings.specs.Checks.{atOdds}
 use Rattle.refusals.specs.Conditions.{firstBroken}
 use mathlib.Core.Path.{sym, _∙_}
 use borrow.Author.Tests.{lt-ltb, le-ltb}

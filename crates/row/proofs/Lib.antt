@@ -1,0 +1,17 @@
+-- Laws about the definitions of specs/. Assumes nothing.
+-- whether two texts are equal
+pub mod Sameness
+-- number 2, column by column
+pub mod Writing
+-- after the first values of a row were taken
+pub mod Taking
+-- what a row is, by the verdicts on its conditions
+pub mod RowCases
+-- lists of twelve numbers
+pub mod Twelve
+-- a row's text from its values
+pub mod OneText
+-- the laws of specs/Laws
+pub mod LawsHold
+-- document 01's examples
+pub mod ExamplesHold

@@ -1,0 +1,137 @@
+-- `row::values::read_values` meets its contract. Assumes nothing.
+use mathlib.Core.Path.{refl, sym, _∙_}
+use Prim.Native.Nat.{_-_}
+use native.Mathlib.Omega.{arith}
+use borrow.Author.Needs.{needs}
+use Rattle.lines.proofs.LineLaws.{found-in-rest}
+use Rattle.refusals.proofs.Answering.{broken-kept}
+use Rattle.row.proofs.Taking.{Taken, taken-none, taken-missing, taken-unreadable, taken-value, taken-after, taken-all}
+use Rattle.row.proofs.values.read_values.Statement.{statement}
+use Rattle.row.proofs.values.read_values.Tie as tie
+
+abbrev Inv-loop : tie.InvT-loop
+Inv-loop row numbers₀ at₀ k₀ numbers at k = Taken row numbers at k
+
+abbrev μ-loop : tie.MeasureT-loop
+μ-loop row numbers₀ at₀ k₀ numbers at k = 12 - k
+
+loop-holds : tie.Need-loop-holds Inv-loop μ-loop
+loop-holds c = taken-none (c .before .args .row .now) _ refl
+
+unreadable-requires : tie.Need-unreadable-requires Inv-loop μ-loop
+unreadable-requires c κs = search needs
+
+returns : tie.Need-returns Inv-loop μ-loop
+returns c =
+    let l = c .before .before .before .loop in
+    let row = c .before .before .before .before .before .args .row .now in
+    let e = taken-missing row (l .numbers) (l .at) (l .k) (l .inv) (c .before .before .loop-test .taken) (omega (arith, c .before .if1 .taken)) in
+    let u = c .unreadable .ensures in
+    (u ∙ sym e, λ kept. broken-kept _ (sym u ∙ kept))
+
+find-requires : tie.Need-find-requires Inv-loop μ-loop
+find-requires c κs = search needs
+
+sub-read-number : tie.Need-sub-read-number Inv-loop μ-loop
+sub-read-number c = search needs
+
+part-read-number-start : tie.Need-part-read-number-start Inv-loop μ-loop
+part-read-number-start c = search needs
+
+part-read-number-end : tie.Need-part-read-number-end Inv-loop μ-loop
+part-read-number-end c = search needs
+
+read-number-requires : tie.Need-read-number-requires Inv-loop μ-loop
+read-number-requires c κs = search needs
+
+enum-known-number : tie.Need-enum-known-number Inv-loop μ-loop
+enum-known-number c = search needs
+
+enum-told : tie.Need-enum-told Inv-loop μ-loop
+enum-told c = search needs
+
+unreadable-requires-2 : tie.Need-unreadable-requires-2 Inv-loop μ-loop
+unreadable-requires-2 c κs = search needs
+
+returns-2 : tie.Need-returns-2 Inv-loop μ-loop
+returns-2 c =
+    let b = c .before .before .before in
+    let l = b .before .before .before .before .before .loop in
+    let row = b .before .before .before .before .before .before .before .args .row .now in
+    let end = b .before .before .find .result in
+    let f = found-in-rest 32 row (l .at) end (b .before .before .find .ensures .0) in
+    let n = sym (b .read-number .ensures) ∙ c .before .enum-told .given .1 in
+    let e = taken-unreadable row (l .numbers) (l .at) (l .k) (l .inv) (b .before .before .before .before .loop-test .taken) (b .before .before .before .if1 .left) end f n in
+    let u = c .unreadable2 .ensures in
+    (u ∙ sym e, λ kept. broken-kept _ (sym u ∙ kept))
+
+mul-numbers : tie.Need-mul-numbers Inv-loop μ-loop
+mul-numbers c = search needs
+
+array-write-numbers : tie.Need-array-write-numbers Inv-loop μ-loop
+array-write-numbers c = search needs
+
+add-at : tie.Need-add-at Inv-loop μ-loop
+add-at c = search needs
+
+add-k : tie.Need-add-k Inv-loop μ-loop
+add-k c = search needs
+
+loop-less : tie.Need-loop-less Inv-loop μ-loop
+loop-less c = search needs
+
+loop-again : tie.Need-loop-again Inv-loop μ-loop
+loop-again c =
+    let b = c .before .before .before in
+    let l = b .before .before .before .before .before .loop in
+    let row = b .before .before .before .before .before .before .before .args .row .now in
+    let end = b .before .before .find .result in
+    let f = found-in-rest 32 row (l .at) end (b .before .before .find .ensures .0) in
+    let n = sym (b .read-number .ensures) ∙ c .before .number .given .1 in
+    taken-value row (l .numbers) (l .at) (l .k) (l .inv) (b .before .before .before .before .loop-test .taken) (b .before .before .before .if1 .left) end f _ n
+
+unreadable-requires-3 : tie.Need-unreadable-requires-3 Inv-loop μ-loop
+unreadable-requires-3 c κs = search needs
+
+returns-3 : tie.Need-returns-3 Inv-loop μ-loop
+returns-3 c =
+    let l = c .before .before .before .loop in
+    let row = c .before .before .before .before .before .args .row .now in
+    let e = taken-after row (l .numbers) (l .at) (l .k) (l .inv) (omega (arith, l .inv .few)) (omega (arith, c .before .if2 .taken)) in
+    let u = c .unreadable3 .ensures in
+    (u ∙ sym e, λ kept. broken-kept _ (sym u ∙ kept))
+
+returns-4 : tie.Need-returns-4 Inv-loop μ-loop
+returns-4 c =
+    let l = c .before .before .loop in
+    let row = c .before .before .before .before .args .row .now in
+    let e = taken-all row (l .numbers) (l .at) (l .k) (l .inv) (omega (arith, l .inv .few)) (omega (arith, c .if2 .left)) in
+    (sym (e .0), λ kept. e .1)
+
+pub read-values-spec : {M : Type 1} → statement M
+read-values-spec =
+    tie.close
+    (tie.spec
+    Inv-loop
+    μ-loop
+    loop-holds
+    unreadable-requires
+    returns
+    find-requires
+    sub-read-number
+    part-read-number-start
+    part-read-number-end
+    read-number-requires
+    enum-known-number
+    enum-told
+    unreadable-requires-2
+    returns-2
+    mul-numbers
+    array-write-numbers
+    add-at
+    add-k
+    loop-less
+    loop-again
+    unreadable-requires-3
+    returns-3
+    returns-4)
