@@ -3,3 +3,5 @@
 pub mod Limits
 -- quotients rounded up
 pub mod Rounding
+-- what the conversions between measures come to
+pub mod Conversions

@@ -10,7 +10,7 @@ use Rattle.measure.specs.declared.Rate.{Rate}
 use mathlib.Core.Bool.{Bool, true, false, cond}
 use lib.Dec.{ltb}
 use Rattle.measure.specs.Measures.{frames, upTo64, within}
-use Rattle.superframe.specs.Reservation.{framesIn, slotsFor, Smallest, latency}
+use Rattle.superframe.specs.Reservation.{framesIn, rate, slotsFor, Smallest, latency}
 use Rattle.measure.proofs.Rounding.{rounded-up-holds, rounded-up-least}
 
 -- k slots hold ρ frames exactly where they are as long as ρ exchanges
@@ -98,3 +98,8 @@ latency-by-sum interval m x z = rw z (omega arith)
 pub latency-by-rest : (interval : Symbols) (m : Frames) (x : Symbols) → 2 ≤ m .0 → interval .0 < 2 ^ 64 →
     interval .0 - upTo64 ((m .0 - 2) * x .0) ≡ upTo64 (latency interval m x .0)
 latency-by-rest interval m x h l = rw (latency-two interval m x h) (omega arith)
+
+-- a reservation of m frames serves m frames in each interval
+pub rate-is : (m : Frames) → rate m .0 ≡ m .0
+unfolding rate
+rate-is m = refl
