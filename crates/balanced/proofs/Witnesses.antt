@@ -1,0 +1,220 @@
+-- The witnesses (specs/Witness). Assumes nothing.
+use mathlib.Core.Path.{_≡_, refl, ap}
+use mathlib.Core.Bool.{Bool, true, false, cond, _&&_, false≢true}
+use mathlib.Core.List.{_∷_}
+use Prim.Native.Nat.{ℕ, zero, suc, _+_, _*_, _≤_, _<_}
+use native.Mathlib.Decide.{decLe}
+use native.Mathlib.Omega.{arith}
+use lib.Dec.{eqb, lit<, lit≤}
+use Rattle.measure.specs.Measures.{roundedUp, burst, arrivals, wholeFrames, serviceTime}
+use Rattle.superframe.specs.Orders.{beaconInterval, slot, contention, reservable}
+use Rattle.superframe.specs.Exchange.{airTime, acknowledgement, spacing, exchange}
+use Rattle.superframe.specs.Reservation.{framesIn, rate, slotsFor, latency}
+use Rattle.links.specs.Link.{slotsOf, framesOf, latencyOf, reservationOf, afterLink, after, buffer, delay, figuresBy, figuresOf}
+use Rattle.network.specs.Counting.{total, bit, below, keep, join, none, each}
+use Rattle.network.specs.Model.{queue}
+use Rattle.network.specs.Readings.{made}
+use Rattle.network.specs.Run.{deliver, feeds, ends, arrived, endExchanges, fresh, makeReadings}
+use Rattle.network.specs.Oracle.{isStart, idle, behind, takeOldest, serve, begun, serveAll, symbol, run}
+use Rattle.network.specs.Examples.{reading, first, written, received}
+use Rattle.network.proofs.Sums.{total-ap, total-add, total-mono}
+use Rattle.network.proofs.Oracles.{every-choice-is-a-run}
+use Rattle.refusals.specs.Refusals.{numberOf, placeOf}
+use Rattle.refusals.specs.Conditions.{firstBroken}
+use Rattle.settings.specs.Columns.{table}
+use Rattle.settings.specs.Checks.{valuesOf, ranged, atOdds, checks}
+use Rattle.balanced.specs.Times.{timingOf, reservableOf}
+use Rattle.balanced.specs.Loads.{sensor, left, near, above, upward, downward, sinkAt, atSink}
+use Rattle.balanced.specs.Checks.{reservations, routers, superframes, routersFit, slotsNeeded, usedBelow, usedOffPath, usedOnPath, hasOffPath, hasOnPath, offPathAt, onPathAt, usedAt, usedFrom, conditions}
+use Rattle.balanced.specs.Lines.{linkFor, endLink, upLink, downLink, totalDelay, sinkFigures, letter, endLines, upLines, downLines, lines, sameKind, figuresAt}
+use Rattle.balanced.specs.Outcome.{outcomeOf}
+use Rattle.balanced.specs.Tree.{isChild, childRouters, endNodes, Within, ancestor, sinkBelow, towards, lineOf, networkOf, Windows, Sensor, Readings}
+use Rattle.balanced.specs.Promise.{sinkLine}
+use Rattle.balanced.specs.Examples.{settings, columns}
+use Rattle.balanced.specs.Witness.{lengthsAt, row, tree, offsets, network, readings, Witnessed, smallRow, smallTree, smallNetwork, fullReadings, Filled, deepRow, fullSlots, tightRow, OnThePath}
+use Rattle.balanced.proofs.LawsHold.{every-plan-keeps}
+use Rattle.balanced.proofs.Stretches.{stretch, stretch-le, apart}
+
+-- ---- what is computed with
+
+-- to unfold `plans` is to unfold all that a plan is computed with, and to unfold `runs` all that a run is
+plans : Type 0
+unfolding roundedUp burst arrivals wholeFrames serviceTime beaconInterval slot contention reservable airTime acknowledgement spacing exchange framesIn rate slotsFor latency slotsOf framesOf latencyOf reservationOf afterLink after buffer delay figuresBy figuresOf total join firstBroken table valuesOf ranged atOdds checks timingOf reservableOf sensor left near above upward downward sinkAt atSink reservations routers superframes routersFit slotsNeeded usedBelow usedOffPath usedOnPath hasOffPath hasOnPath offPathAt onPathAt usedAt usedFrom conditions linkFor endLink upLink downLink totalDelay sinkFigures letter endLines upLines downLines lines outcomeOf settings columns sameKind Rattle.balanced.specs.Lines.none figuresAt Rattle.balanced.specs.Examples.written numberOf placeOf row smallRow deepRow fullSlots tightRow
+plans = Unit
+
+runs : Type 0
+unfolding plans bit below isChild ancestor sinkBelow towards lineOf networkOf tree offsets network readings reading received written first run symbol serveAll begun serve takeOldest behind idle isStart makeReadings fresh endExchanges Rattle.network.specs.Run.arrivals arrived ends feeds deliver made queue keep lengthsAt sinkLine smallTree smallNetwork fullReadings
+runs = Unit
+
+-- ---- the tree
+
+six : (P : ℕ → Type 0) → P 0 → P 1 → P 2 → P 3 → P 4 → P 5 → (v : ℕ) → v < 6 → P v
+six P a b c d e f zero h = a
+six P a b c d e f (suc zero) h = b
+six P a b c d e f (suc (suc zero)) h = c
+six P a b c d e f (suc (suc (suc zero))) h = d
+six P a b c d e f (suc (suc (suc (suc zero)))) h = e
+six P a b c d e f (suc (suc (suc (suc (suc zero))))) h = f
+six P a b c d e f (suc (suc (suc (suc (suc (suc v)))))) h = absurd (omega arith)
+
+tree-within : Within row tree
+unfolding runs childRouters endNodes
+tree-within = record {
+  rootIsNode = lit< tt;
+  rootIsRouter = refl;
+  rootDepth = refl;
+  parentIsNode = six _ (λ n. lit< tt) (λ n. lit< tt) (λ n. lit< tt) (λ n. lit< tt) (λ n. lit< tt) (λ n. lit< tt);
+  parentIsRouter = six _ (λ n. refl) (λ n. refl) (λ n. refl) (λ n. refl) (λ n. refl) (λ n. refl);
+  parentDepth = six _ (λ n. refl) (λ n. refl) (λ n. refl) (λ n. refl) (λ n. absurd (n refl)) (λ n. refl);
+  deepest = six _ end (λ r. lit≤ tt) (λ r. lit≤ tt) end (λ r. lit≤ tt) end;
+  routers = six _ (lit≤ tt) (lit≤ tt) (lit≤ tt) (lit≤ tt) (lit≤ tt) (lit≤ tt);
+  ends = six _ (lit≤ tt) (lit≤ tt) (lit≤ tt) (lit≤ tt) (lit≤ tt) (lit≤ tt);
+  sinkIsNode = lit< tt;
+  sinkIsRouter = refl;
+  sinkDepth = refl;
+}
+  where
+    end : {A : Type 0} → false ≡ true → A
+    end r = absurd (false≢true r)
+
+tree-windows : Windows row (lines row) tree offsets
+unfolding runs
+tree-windows = six _ (λ n. lit≤ tt) (λ n. lit≤ tt) (λ n. lit≤ tt) (λ n. lit≤ tt) (λ n. lit≤ tt) (λ n. lit≤ tt)
+
+-- ---- the tree's readings
+
+-- a sensor makes a frame in symbol 0, or none
+abbrev of-each : Bool → ℕ → ℕ
+of-each b v = cond (b && eqb 5 v) 1 0 + (cond (b && eqb 2 v) 1 0 + (cond (b && eqb 4 v) 1 0 + (cond (b && eqb 1 v) 1 0 + 0)))
+
+tree-made : (t v : ℕ) → v < 6 → made readings t v ≤ bit (eqb 0 t)
+unfolding runs
+tree-made t v h = by (eqb 0 t)
+  where
+    by : (b : Bool) → of-each b v ≤ bit b
+    by true = six (λ v. of-each true v ≤ 1) (lit≤ tt) (lit≤ tt) (lit≤ tt) (lit≤ tt) (lit≤ tt) (lit≤ tt) v h
+    by false = lit≤ tt
+
+-- every node senses
+all-sense : (v : ℕ) → v < 6 → Sensor row tree v
+unfolding plans tree
+all-sense v h = record { isNode = h; senses = λ r. refl }
+
+tree-readings : Readings row tree readings
+unfolding plans tree readings reading stretch
+tree-readings = record {
+  sensors = each (all-sense 5 (lit< tt)) (each (all-sense 2 (lit< tt)) (each (all-sense 4 (lit< tt)) (each (all-sense 1 (lit< tt)) none)));
+  bucket = λ v x t S. omega (arith, total-mono (λ i. made readings (x + i) v) (λ i. bit (eqb 0 (x + i))) t (λ i h. tree-made (x + i) v (S .isNode)), stretch-le 0 x t);
+}
+
+-- two frames of a sensor in symbol 0 are too many
+too-many : (v : ℕ) → made (reading 0 v 1 ∷ readings) 0 v ≡ 2 → v < 6 → Readings row tree (reading 0 v 1 ∷ readings) → ⊥
+unfolding plans
+too-many v e h R =
+    let k : (0 + made (reading 0 v 1 ∷ readings) 0 v) * 3840 ≤ 1 * 3840 + 1 * 1 = R .bucket v 0 1 (all-sense v h) in
+    omega (arith, ap (λ (n : ℕ). n * 3840) e)
+
+pub witnessed : Witnessed
+unfolding runs
+witnessed = record {
+  planned = refl;
+  printed = refl;
+  withinRow = tree-within;
+  neighbours = refl;
+  exchanges = refl;
+  windowsFit = tree-windows;
+  lastWindow = refl;
+  keepBuckets = tree-readings;
+  atTheLimit = each (too-many 5 refl (lit< tt)) (each (too-many 2 refl (lit< tt)) (each (too-many 4 refl (lit< tt)) (each (too-many 1 refl (lit< tt)) none)));
+  arrived = refl;
+  inTime = each (lit≤ tt) (each (lit≤ tt) (each (lit≤ tt) (each (lit≤ tt) none)));
+  routersQueue = refl;
+  rootsQueue = refl;
+  buffers = refl;
+  kept = λ pick u. every-plan-keeps row (lines row) refl tree tree-within offsets tree-windows readings tree-readings _ (every-choice-is-a-run network readings pick) u;
+}
+
+-- ---- the full queue
+
+two : (P : ℕ → Type 0) → P 0 → P 1 → (v : ℕ) → v < 2 → P v
+two P a b zero h = a
+two P a b (suc zero) h = b
+two P a b (suc (suc v)) h = absurd (omega arith)
+
+small-within : Within smallRow smallTree
+unfolding runs childRouters endNodes
+small-within = record {
+  rootIsNode = lit< tt;
+  rootIsRouter = refl;
+  rootDepth = refl;
+  parentIsNode = two _ (λ n. lit< tt) (λ n. lit< tt);
+  parentIsRouter = two _ (λ n. refl) (λ n. refl);
+  parentDepth = two _ (λ n. absurd (n refl)) (λ n. refl);
+  deepest = two _ (λ r. lit≤ tt) (λ r. absurd (false≢true r));
+  routers = two _ (lit≤ tt) (lit≤ tt);
+  ends = two _ (lit≤ tt) (lit≤ tt);
+  sinkIsNode = lit< tt;
+  sinkIsRouter = refl;
+  sinkDepth = refl;
+}
+
+small-windows : Windows smallRow (lines smallRow) smallTree (λ v. 0)
+unfolding runs
+small-windows = two _ (λ n. lit≤ tt) (λ n. lit≤ tt)
+
+small-made : (t : ℕ) → made fullReadings t 1 ≡ bit (eqb 60 t) + (bit (eqb 539 t) + bit (eqb 1019 t))
+unfolding made fullReadings reading bit
+small-made t = omega (arith, one (eqb 60 t), one (eqb 539 t), one (eqb 1019 t))
+  where
+    one : (b : Bool) → cond {A = ℕ} (b && true) 1 0 ≡ bit b
+    one true = refl
+    one false = refl
+
+small-few : (x t : ℕ) → (stretch 60 x t + (stretch 539 x t + stretch 1019 x t)) * 960 ≤ 960 + 2 * t
+small-few x t = by (decLe 960 t) (decLe 480 t)
+  where
+    by : Dec (960 ≤ t) → Dec (480 ≤ t) → (stretch 60 x t + (stretch 539 x t + stretch 1019 x t)) * 960 ≤ 960 + 2 * t
+    by (yes h) k = omega (arith, stretch-le 60 x t, stretch-le 539 x t, stretch-le 1019 x t)
+    by (no h) (yes k) = omega (arith, apart 60 1019 x t (omega arith), stretch-le 539 x t)
+    by (no h) (no k) = omega (arith, apart 60 539 x t (omega arith), apart 539 1019 x t (omega arith), apart 60 1019 x t (omega arith))
+
+-- the end node senses, and the root does not
+small-readings : Readings smallRow smallTree fullReadings
+unfolding plans smallTree fullReadings reading stretch
+small-readings = record {
+  sensors = each end-node (each end-node (each end-node none));
+  bucket = λ v x t S. two (λ v. Sensor smallRow smallTree v → total (λ i. made fullReadings (x + i) v) t * 960 ≤ 960 + 2 * t) root (λ e. node x t) v (S .isNode) S;
+}
+  where
+    end-node : Sensor smallRow smallTree 1
+    end-node = record { isNode = lit< tt; senses = λ r. absurd (false≢true r) }
+
+    root : {A : Type 0} → Sensor smallRow smallTree 0 → A
+    root S = absurd (omega (arith, S .senses refl))
+
+    node : (x t : ℕ) → total (λ i. made fullReadings (x + i) 1) t * 960 ≤ 960 + 2 * t
+    node x t = omega (
+      arith,
+      small-few x t,
+      total-ap (λ i. made fullReadings (x + i) 1) (λ i. bit (eqb 60 (x + i)) + (bit (eqb 539 (x + i)) + bit (eqb 1019 (x + i)))) t (λ i h. small-made (x + i)),
+      total-add (λ i. bit (eqb 60 (x + i))) (λ i. bit (eqb 539 (x + i)) + bit (eqb 1019 (x + i))) t,
+      total-add (λ i. bit (eqb 539 (x + i))) (λ i. bit (eqb 1019 (x + i))) t,
+    )
+
+pub filled : Filled
+unfolding runs
+filled = record {
+  planned = refl;
+  printed = refl;
+  withinRow = small-within;
+  windowsFit = small-windows;
+  keepBuckets = small-readings;
+  full = refl;
+  arrived = refl;
+}
+
+-- ---- routers on the sink's path
+
+pub on-the-path : OnThePath
+unfolding plans
+on-the-path = record { deep = refl; used = refl; planned = refl; tight = refl; refused = refl }
