@@ -1,0 +1,23 @@
+-- Laws about the definitions of specs/. Assumes nothing.
+-- loads and rates as the functions put them together
+pub mod Made
+-- the times of checked settings
+pub mod TimesMade
+-- tables by depth
+pub mod Tables
+-- from one depth to the next
+pub mod Depths
+-- numbers 5 to 7, one condition after another
+pub mod Conditions
+-- the slots used at a depth
+pub mod SlotsMade
+-- lines, collected one after another
+pub mod SheetLaws
+-- a sheet with lines
+pub mod Whole
+-- the lines of a sound row
+pub mod PlanLines
+-- the end nodes' line and line S
+pub mod Ends
+-- the answer as a whole, and demand 3 of it
+pub mod Answers

@@ -1,0 +1,29 @@
+-- The times of checked settings, as superframe's functions answer them. Assumes nothing.
+use mathlib.Core.Path.{_≡_, ap, _∙_}
+use Prim.Native.Nat.{ℕ, _+_, _≤_, min}
+use native.Mathlib.Omega.{arith}
+use lib.Dec.{eqb}
+use Rattle.measure.specs.declared.Symbols.{Symbols}
+use Rattle.measure.specs.declared.Slots.{Slots}
+use Rattle.superframe.specs.Orders.{beaconInterval, slot, reservable}
+use Rattle.superframe.specs.Exchange.{exchangeFor}
+use Rattle.superframe.proofs.ExchangeLaws.{exchange-for-octets}
+use Rattle.links.specs.declared.Timing.{Timing}
+use Rattle.settings.specs.declared.Settings.{Settings}
+use Rattle.settings.specs.Laws.{Checked}
+use Rattle.balanced.specs.Times.{timingOf, reservableOf}
+
+-- an order in its range is taken as it is
+order-is : (o : ℕ) → o ≤ 14 → min o 14 ≡ o
+order-is o h = omega arith
+
+pub reservable-made : (s : Settings) → Checked s → (l : Slots) → l ≡ reservable (min (s .so) 14) → l ≡ reservableOf s
+unfolding reservableOf
+reservable-made s h l e = e ∙ ap reservable (order-is (s .so) (h .so))
+
+pub timing-made : (s : Settings) → Checked s → (i t x : Symbols) → i ≡ beaconInterval (min (s .bo) 14) → t ≡ slot (min (s .so) 14) → x ≡ exchangeFor (s .head + s .payload) (eqb (s .ack) 1)
+    → _≡_ {A = Timing} (record { interval = i; slot = t; exchange = x }) (timingOf s)
+unfolding timingOf
+timing-made s h i t x ei et ex =
+    let x′ = ex ∙ exchange-for-octets (s .head + s .payload) (eqb (s .ack) 1) (omega (arith, h .head .0, h .payload .0)) (h .frame) in
+    rw (ei, et, x′, order-is (s .bo) (h .bo), order-is (s .so) (h .so))

@@ -1,0 +1,126 @@
+// Number 7 of document 01's table: the slots that each router's superframe needs, depth by depth. What is required here
+// `lines::plan_sound` meets.
+ghost use mathlib.Core.Path.{_≡_};
+ghost use Prim.Native.Nat.{_≤_, _<_, suc};
+ghost use Rattle.refusals.specs.declared.Verdict.the-variants.{Kept, Broken};
+ghost use Rattle.refusals.specs.declared.Refusal.the-variants.{SlotsUsed};
+ghost use Rattle.refusals.specs.Conditions.{condition, firstBroken};
+ghost use mathlib.Core.List.{[], _∷_};
+ghost use lib.Dec.{ltb};
+ghost use Rattle.balanced.specs.Times.{timingOf, reservableOf};
+ghost use Rattle.balanced.specs.Loads.{sensor};
+ghost use Rattle.balanced.specs.Checks.{usedOffPath, usedOnPath, hasOffPath, offPathAt, usedAt, usedFrom};
+ghost use Rattle.balanced.specs.Bounds.{Sound};
+ghost use Rattle.planner.specs.Inner.{HeldFrom, HeldBelow, linkOf, linkUp, linkDown, noLink};
+use crate::rates::Links;
+use measure::Slots;
+use refusals::Refusal;
+use refusals::Verdict;
+use settings::Settings;
+
+// Number 7: the first depth at which the slots used exceed L, if there is one. `end` is an end node's reservation.
+pub(crate) fn slots_fit(s: Settings, l: Slots, end: Slots, up: Links, down: Links) -> Verdict
+    requires { ⌜ Sound s ⌝ }
+    requires { ⌜ l ≡ reservableOf s ⌝ }
+    requires { ⌜ end ≡ linkOf (timingOf s) (sensor s .rate) .reservation .slots ⌝ }
+    requires { ⌜ HeldFrom (linkUp s) noLink 0 (s .h) (up .at) ⌝ }
+    requires { ⌜ HeldBelow (linkDown s) noLink (s .sink) (down .at) ⌝ }
+    ensures { λ r. ⌜ r ≡ firstBroken Broken Kept (usedFrom s (suc (s .h)) 0) ⌝ }
+{
+    let mut i = 0;
+    while i <= s.h {
+        let verdict = depth_fits(s, l, end, up, down, i);
+        if let Verdict::Broken(_) = verdict {
+            return verdict;
+        }
+        i += 1;
+    }
+    Verdict::Kept
+}
+
+// Number 7 at depth i: the routers off the sink's path, and the one on it.
+fn depth_fits(s: Settings, l: Slots, end: Slots, up: Links, down: Links, i: u64) -> Verdict
+    requires { ⌜ Sound s ⌝ }
+    requires { ⌜ l ≡ reservableOf s ⌝ }
+    requires { ⌜ end ≡ linkOf (timingOf s) (sensor s .rate) .reservation .slots ⌝ }
+    requires { ⌜ HeldFrom (linkUp s) noLink 0 (s .h) (up .at) ⌝ }
+    requires { ⌜ HeldBelow (linkDown s) noLink (s .sink) (down .at) ⌝ }
+    requires { ⌜ i ≤ s .h ⌝ }
+    ensures { λ r. ⌜ r ≡ firstBroken Broken Kept (usedAt s i) ⌝ }
+{
+    let verdict = off_path_fits(s, l, off_path_slots(s, end, up, i), i);
+    if let Verdict::Broken(_) = verdict {
+        return verdict;
+    }
+    if i < s.sink {
+        return within(l, on_path_slots(s, end, up, down, i), i);
+    }
+    Verdict::Kept
+}
+
+// Number 7 at depth i for the routers off the sink's path, which use that many slots.
+fn off_path_fits(s: Settings, l: Slots, used: Slots, i: u64) -> Verdict
+    requires { ⌜ l ≡ reservableOf s ⌝ }
+    requires { ⌜ used ≡ usedOffPath s i ⌝ }
+    requires { ⌜ i ≤ 12 ⌝ }
+    ensures { λ r. ⌜ r ≡ firstBroken Broken Kept (offPathAt s i ∷ []) ⌝ }
+{
+    if has_off_path(s, i) {
+        return within(l, used, i);
+    }
+    Verdict::Kept
+}
+
+// Whether the slots used at depth i exceed L.
+fn within(l: Slots, used: Slots, i: u64) -> Verdict
+    requires { ⌜ i ≤ 12 ⌝ }
+    ensures { λ r. ⌜ r ≡ firstBroken Broken Kept (condition (ltb (l .0) (used .0)) (SlotsUsed i used l) ∷ []) ⌝ }
+{
+    if l.0 < used.0 {
+        return Verdict::Broken(Refusal::SlotsUsed {
+            depth: i as u32,
+            used,
+            reservable: l,
+        });
+    }
+    Verdict::Kept
+}
+
+// Whether a depth has routers off the sink's path: not the root's, where the sink is below it.
+fn has_off_path(s: Settings, i: u64) -> bool
+    ensures { λ r. ⌜ r ≡ hasOffPath s i ⌝ }
+{
+    if i == 0 {
+        return s.sink == 0;
+    }
+    true
+}
+
+// What a router off the sink's path uses at depth i: NE end nodes, and above depth H NR child routers.
+fn off_path_slots(s: Settings, end: Slots, up: Links, i: u64) -> Slots
+    requires { ⌜ Sound s ⌝ }
+    requires { ⌜ end ≡ linkOf (timingOf s) (sensor s .rate) .reservation .slots ⌝ }
+    requires { ⌜ HeldFrom (linkUp s) noLink 0 (s .h) (up .at) ⌝ }
+    ensures { λ r. ⌜ r ≡ usedOffPath s i ⌝ }
+{
+    let ends = end.times(s.ne);
+    if i < s.h {
+        let below = up.get(i + 1).reservation.slots;
+        return ends.plus(below.times(s.nr));
+    }
+    ends
+}
+
+// What the router on the sink's path uses at depth i: one of the NR is replaced by the downward one.
+fn on_path_slots(s: Settings, end: Slots, up: Links, down: Links, i: u64) -> Slots
+    requires { ⌜ Sound s ⌝ }
+    requires { ⌜ end ≡ linkOf (timingOf s) (sensor s .rate) .reservation .slots ⌝ }
+    requires { ⌜ HeldFrom (linkUp s) noLink 0 (s .h) (up .at) ⌝ }
+    requires { ⌜ HeldBelow (linkDown s) noLink (s .sink) (down .at) ⌝ }
+    requires { ⌜ i < s .sink ⌝ }
+    ensures { λ r. ⌜ r ≡ usedOnPath s i ⌝ }
+{
+    let below = up.get(i + 1).reservation.slots;
+    let own = down.get(i).reservation.slots;
+    end.times(s.ne).plus(below.times(s.nr - 1)).plus(own)
+}
