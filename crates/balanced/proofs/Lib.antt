@@ -35,6 +35,8 @@ pub mod WindowsFit
 -- ---- statements
 -- the laws of specs/Laws
 pub mod LawsHold
+-- a router alone
+pub mod LoneSinks
 -- P1 to P10
 pub mod ExamplesHold
 -- symbols in a stretch of symbols

@@ -2,7 +2,7 @@
 use mathlib.Core.Path.{_≡_}
 use mathlib.Core.Logic.{_↔_}
 use mathlib.Core.Bool.{false}
-use mathlib.Core.List.{List}
+use mathlib.Core.List.{List, [], _∷_}
 use Prim.Native.Nat.{ℕ, _+_, _≤_, _<_}
 use Rattle.superframe.specs.Reservation.{Smallest}
 use Rattle.network.specs.Counting.{All}
@@ -13,7 +13,7 @@ use Rattle.balanced.specs.declared.Line.{Line}
 use Rattle.balanced.specs.Times.{timingOf, reservableOf}
 use Rattle.balanced.specs.Loads.{upward, downward, atSink}
 use Rattle.balanced.specs.Checks.{routers, superframes, usedOffPath, usedOnPath}
-use Rattle.balanced.specs.Lines.{lines, sameKind}
+use Rattle.balanced.specs.Lines.{line, sinkFigures, lines, sameKind}
 use Rattle.balanced.specs.Outcome.{Planned, outcomeOf}
 use Rattle.balanced.specs.Bounds.{Sound, Bounded}
 use Rattle.balanced.specs.Tree.{Tree, Within, Windows}
@@ -50,6 +50,11 @@ pub record LoadsBounded (s : Settings) : Type 0 where
 
 abbrev pub EveryLoadBounded : Type 0
 EveryLoadBounded = (s : Settings) → Sound s → LoadsBounded s
+
+-- a row of one router without end nodes has line S alone, with DELAY 0, whatever its RATE: nothing passes a link
+abbrev pub LoneSink : Type 0
+LoneSink = (s : Settings) → Checked s → s .h ≡ 0 → s .ne ≡ 0
+    → (outcomeOf s ≡ Planned (line Sink 0 (sinkFigures s) ∷ [])) × (sinkFigures s .delay .0 ≡ 0)
 
 -- ---- demand 3
 
