@@ -21,7 +21,7 @@ use Rattle.balanced.specs.declared.Line.{Line}
 use Rattle.balanced.specs.Times.{timingOf}
 use Rattle.balanced.specs.Loads.{sensor, upward, downward, sinkAt, atSink}
 use Rattle.balanced.specs.Checks.{conditions}
-use Rattle.balanced.specs.Lines.{linkFor, endLink, upLink, downLink, line, endLines, upLines, downLines, lines, sameKind}
+use Rattle.balanced.specs.Lines.{linkFor, endLink, upLink, downLink, line, endLines, upLines, downLines, lines, letter, sameKind}
 use Rattle.balanced.specs.Outcome.{Outcome, Planned, Refused, outcomeOf}
 use Rattle.balanced.specs.Bounds.{Bounded}
 use Rattle.balanced.specs.Promise.{Keeps}
@@ -91,7 +91,7 @@ module _ (s : Settings) (C : Checked s) where
   down-fewest n = All-join n _ (λ i h. each (link-fewest Downward i (downward s i)) none)
 
   fewest : All Fewest (lines s)
-  unfolding lines sameKind
+  unfolding lines letter sameKind
   fewest = All-append (All-append (All-append end-fewest (up-fewest (s .h))) (down-fewest (s .sink))) (each (λ e. absurd (true≢false e)) none)
 
 pub no-slot-too-many : NoSlotTooMany

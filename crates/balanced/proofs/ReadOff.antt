@@ -13,7 +13,7 @@ use Rattle.settings.specs.declared.Settings.{Settings}
 use Rattle.balanced.specs.declared.Kind.{Kind}
 use Rattle.balanced.specs.declared.Kind.the-variants.{EndNode, Upward, Downward, Sink}
 use Rattle.balanced.specs.declared.Line.{Line}
-use Rattle.balanced.specs.Lines.{endLink, upLink, downLink, sinkFigures, line, endLines, upLines, downLines, lines, sameKind, figuresAt}
+use Rattle.balanced.specs.Lines.{endLink, upLink, downLink, sinkFigures, line, endLines, upLines, downLines, lines, letter, sameKind, figuresAt}
 
 -- the figures of the first line of that kind and depth, or z where there is none
 unfoldable firstOr : Kind → ℕ → Figures → List Line → Figures
@@ -66,7 +66,7 @@ module _ (s : Settings) where
 
   -- an upward line: the depths are different, so the first of its depth is the only one
   up-found : (i n : ℕ) (z : Figures) → 0 < i → i ≤ n → firstOr Upward i z (upLines s n) ≡ upLink s i
-  unfolding firstOr upLines sameKind
+  unfolding firstOr upLines letter sameKind
   up-found i zero z h k = absurd (omega arith)
   up-found i (suc n) z h k = by (ℕ-discrete (suc n) i) (λ l. up-found i n z h l)
     where
@@ -76,13 +76,13 @@ module _ (s : Settings) where
 
   -- the lines D of the depths above i
   down-above : (i n : ℕ) (z : Figures) → n ≤ i → firstOr Downward i z (downLines s n) ≡ z
-  unfolding firstOr downLines join sameKind
+  unfolding firstOr downLines join letter sameKind
   down-above i zero z h = refl
   down-above i (suc n) z h = first-append Downward i z (downLines s n) _ ∙ rw (ne-eqb n i (λ e. omega arith)) (down-above i n z (omega arith))
 
   -- a downward line
   down-found : (i n : ℕ) (z : Figures) → i < n → firstOr Downward i z (downLines s n) ≡ downLink s i
-  unfolding firstOr downLines join sameKind
+  unfolding firstOr downLines join letter sameKind
   down-found i zero z h = absurd (omega arith)
   down-found i (suc n) z h = first-append Downward i z (downLines s n) _ ∙ by (ℕ-discrete n i) (λ l. down-found i n z l)
     where
@@ -94,19 +94,19 @@ module _ (s : Settings) where
   -- ---- what is read off the whole plan
 
   pub reads-end : 0 < s .ne → figuresAt EndNode 0 (lines s) ≡ endLink s
-  unfolding firstOr endLines sameKind
+  unfolding firstOr endLines letter sameKind
   reads-end h = read-lines EndNode 0 ∙ rw (lt-ltb 0 (s .ne) h)
 
   pub reads-up : (i : ℕ) → 0 < i → i ≤ s .h → figuresAt Upward i (lines s) ≡ upLink s i
-  unfolding sameKind
+  unfolding letter sameKind
   reads-up i h k = read-lines Upward i ∙ end-other Upward i _ refl ∙ up-found i (s .h) _ h k
 
   pub reads-down : (i : ℕ) → i < s .sink → figuresAt Downward i (lines s) ≡ downLink s i
-  unfolding sameKind
+  unfolding letter sameKind
   reads-down i h = read-lines Downward i ∙ end-other Downward i _ refl ∙ up-other Downward i (s .h) _ refl ∙ down-found i (s .sink) _ h
 
   pub reads-sink : figuresAt Sink (s .sink) (lines s) ≡ sinkFigures s
-  unfolding sameKind figuresAt
+  unfolding letter sameKind figuresAt
   reads-sink =
       read-lines Sink (s .sink) ∙ end-other Sink (s .sink) _ refl ∙ up-other Sink (s .sink) (s .h) _ refl ∙ down-other Sink (s .sink) (s .sink) _ refl
       ∙ rw (eq-eqb (s .sink) (s .sink) refl)

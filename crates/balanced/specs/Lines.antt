@@ -1,6 +1,6 @@
 -- The lines of the plan (document 01, 'The printed plan'). Assumes nothing: these are definitions.
 use Prim.Native.Nat.{ℕ, zero, suc, _+_}
-use mathlib.Core.Bool.{Bool, true, false, cond, _&&_}
+use mathlib.Core.Bool.{Bool, cond, _&&_}
 use mathlib.Core.List.{List, [], _∷_, _++_}
 use lib.Dec.{eqb, ltb}
 use Rattle.measure.specs.declared.Symbols.{Symbols}
@@ -79,23 +79,9 @@ lines s = endLines s ++ upLines s (s .h) ++ downLines s (s .sink) ++ line Sink (
 
 -- ---- reading the lines
 
+-- two kinds are the same where their letters are
 unfoldable pub sameKind : Kind → Kind → Bool
-sameKind EndNode EndNode = true
-sameKind Upward Upward = true
-sameKind Downward Downward = true
-sameKind Sink Sink = true
-sameKind EndNode Upward = false
-sameKind EndNode Downward = false
-sameKind EndNode Sink = false
-sameKind Upward EndNode = false
-sameKind Upward Downward = false
-sameKind Upward Sink = false
-sameKind Downward EndNode = false
-sameKind Downward Upward = false
-sameKind Downward Sink = false
-sameKind Sink EndNode = false
-sameKind Sink Upward = false
-sameKind Sink Downward = false
+sameKind a b = eqb (letter a) (letter b)
 
 -- the figures of a line that is not there
 unfoldable pub none : Figures

@@ -6,8 +6,7 @@ use Prim.Native.Nat.{ℕ, zero, suc, _+_, _-_, _*_, _^_, _≤_, _<_, _%_}
 use native.Mathlib.Nat.{mul-le-mul-right, pow-zero, pow-suc, pow-le-pow-right}
 use native.Mathlib.Numerals.{add-one}
 use native.Mathlib.Omega.{arith}
-use lib.Dec.{eqb, ltb, lit<}
-use lib.Pow.{shl-exact}
+use lib.Dec.{eqb, ltb}
 use borrow.Author.Tests.{lt-ltb, le-ltb, eq-eqb, ne-eqb}
 use Rattle.network.specs.Counting.{total}
 use Rattle.refusals.specs.declared.Refusal.{Refusal}
@@ -15,6 +14,7 @@ use Rattle.refusals.specs.declared.Refusal.the-variants.{Superframes, SlotsUsed
 use Rattle.refusals.specs.declared.Verdict.the-variants.{Kept, Broken}
 use Rattle.refusals.specs.Conditions.{condition, firstBroken}
 use Rattle.refusals.proofs.Answering.{verdict, first-part-answers, second-part-answers}
+use Rattle.superframe.proofs.OrderLaws.{shifted}
 use Rattle.settings.specs.declared.Settings.{Settings}
 use Rattle.balanced.specs.Times.{reservableOf}
 use Rattle.balanced.specs.Checks.{routers, superframes, routersFit, usedOffPath, usedOnPath, hasOffPath, hasOnPath, offPathAt, onPathAt, usedAt, usedFrom}
@@ -42,8 +42,8 @@ pub full-fits : (k n : ℕ) → k ≤ 7 → n ≤ 12 → full k n ≤ 8 ^ 12
 full-fits k n h l = let p : 8 ^ n ≤ 8 ^ 12 = pow-le-pow-right (omega arith) l in omega (arith, full-small k n h .0)
 
 -- the superframes of an interval
-pub shifted : (k : ℕ) → k ≤ 14 → 1 * 2 ^ k % 2 ^ 64 ≡ 2 ^ k
-shifted k h = let low : 1 < 2 ^ 1 = lit< tt in shl-exact 1 k 64 low (omega arith) ∙ omega arith
+pub one-shifted : (k : ℕ) → k ≤ 14 → 1 * 2 ^ k % 2 ^ 64 ≡ 2 ^ k
+one-shifted k h = shifted 1 (omega arith) h ∙ omega arith
 
 pub routers-over : (s : Settings) (n k : ℕ) → n ≡ total (λ j. s .nr ^ j) (suc (s .h)) → k ≡ 2 ^ (s .bo - s .so) → k < n
     → Broken (Superframes n k) ≡ verdict (routersFit s)

@@ -2,7 +2,7 @@
 -- nothing.
 use mathlib.Core.Path.{_≡_, refl, sym, ap, _∙_}
 use mathlib.Core.Bool.{Bool, true, false, cond}
-use mathlib.Core.List.{List, [], _∷_, _++_}
+use mathlib.Core.List.{List, [], _∷_, _++_, append-nil}
 use Prim.Native.Nat.{ℕ, zero, suc, _+_, _-_, _*_, _^_, _≤_, _<_}
 use native.Mathlib.Nat.{mul-le-mul-right}
 use native.Mathlib.Omega.{arith}
@@ -26,13 +26,13 @@ use Rattle.balanced.proofs.LoadBounds.{sensor-bounded, upward-bounded, downward
 use Rattle.balanced.proofs.Recurrences.{sensor-some, upward-some, downward-some}
 use Rattle.planner.specs.declared.sheet.Sheet.{Sheet}
 use Rattle.planner.specs.Sheets.{empty, pushed, filled, downLinesFrom}
-use Rattle.planner.proofs.Whole.{nothing-behind, delays, delays-append, sheetOf, filled-append, filled-empty, pushed-held}
+use Rattle.planner.proofs.Whole.{delays, delays-append, sheetOf, filled-append, filled-empty, pushed-held}
 
 -- ---- the downward lines
 
 down-from : (s : Settings) (n i : ℕ) → downLines s i ++ downLinesFrom s n i ≡ downLines s (i + n)
 unfolding downLinesFrom downLines join
-down-from s zero i = let e : i ≡ i + 0 = omega arith in nothing-behind (downLines s i) ∙ ap (downLines s) e
+down-from s zero i = let e : i ≡ i + 0 = omega arith in append-nil (downLines s i) ∙ ap (downLines s) e
 down-from s (suc n) i =
     let e : suc i + n ≡ i + suc n = omega arith in
     sym (append-snoc (downLines s i) (line Downward i (downLink s i)) (downLinesFrom s n (suc i))) ∙ down-from s n (suc i) ∙ ap (downLines s) e

@@ -1,6 +1,6 @@
 -- A sheet that lines were put on, one after another, holds them at its front and the sum of their delays. Assumes nothing.
 use mathlib.Core.Path.{_≡_, refl, sym, ap, _∙_}
-use mathlib.Core.List.{List, [], _∷_, _++_}
+use mathlib.Core.List.{List, [], _∷_, _++_, append-nil}
 use Prim.Native.Nat.{ℕ, suc, _+_, _-_, _≤_, _<_}
 use native.Mathlib.Omega.{arith}
 use borrow.Author.Tests.{lt-ltb}
@@ -11,11 +11,6 @@ use Rattle.balanced.specs.declared.Line.{Line}
 use Rattle.planner.specs.declared.sheet.Sheet.{Sheet}
 use Rattle.planner.specs.Plans.{blank, held}
 use Rattle.planner.specs.Sheets.{empty, pushed, filled}
-
--- nothing behind a list
-pub nothing-behind : {A : Type 0} (xs : List A) → xs ++ [] ≡ xs
-nothing-behind [] = refl
-nothing-behind (x ∷ xs) = ap (λ (l : List _). x ∷ l) (nothing-behind xs)
 
 -- the sum of the lines' delays
 unfoldable pub delays : List Line → ℕ
@@ -55,7 +50,7 @@ pushed-held ls l h =
 
 filled-held : (xs ls : List Line) → length xs + length ls ≤ 26 → filled (sheetOf xs) ls ≡ sheetOf (xs ++ ls)
 unfolding filled
-filled-held xs [] h = ap sheetOf (sym (nothing-behind xs))
+filled-held xs [] h = ap sheetOf (sym (append-nil xs))
 filled-held xs (l ∷ ls) h =
     ap (λ (t : Sheet). filled t ls) (pushed-held xs l (omega arith))
     ∙ filled-held (xs ++ (l ∷ [])) ls (omega (arith, length-append xs (l ∷ [])))

@@ -54,7 +54,7 @@ pub(crate) fn empty_sheet() -> Sheet
 }
 
 impl Sheet {
-    // The sheet with one line more. A full sheet stays as it is; no plan fills one (`proofs/Sheets`).
+    // The sheet with one line more. A full sheet stays as it is; no plan has more lines (proofs/PlanLines).
     pub(crate) fn push(self, line: Line) -> Sheet
         ensures { λ r. ⌜ r ≡ pushed self line ⌝ }
     {
