@@ -37,8 +37,6 @@ pub mod WindowsFit
 pub mod LawsHold
 -- a router alone
 pub mod LoneSinks
--- P1 to P10
-pub mod ExamplesHold
 -- symbols in a stretch of symbols
 pub mod Stretches
 -- hypotheses that are met, with traffic, a full queue, and slots all used

@@ -19,7 +19,6 @@ use Rattle.network.specs.Oracle.{isStart, idle, behind, takeOldest, serve, begu
 use Rattle.network.specs.Examples.{reading, first, written, received}
 use Rattle.network.proofs.Sums.{total-ap, total-add, total-mono}
 use Rattle.network.proofs.Oracles.{every-choice-is-a-run}
-use Rattle.refusals.specs.Refusals.{numberOf, placeOf}
 use Rattle.refusals.specs.Conditions.{firstBroken}
 use Rattle.settings.specs.Columns.{table}
 use Rattle.settings.specs.Checks.{valuesOf, ranged, atOdds, checks}
@@ -30,8 +29,7 @@ use Rattle.balanced.specs.Lines.{linkFor, endLink, upLink, downLink, tot
 use Rattle.balanced.specs.Outcome.{outcomeOf}
 use Rattle.balanced.specs.Tree.{isChild, childRouters, endNodes, Within, ancestor, sinkBelow, towards, lineOf, networkOf, Windows, Sensor, Readings}
 use Rattle.balanced.specs.Promise.{sinkLine}
-use Rattle.balanced.specs.Examples.{settings, columns}
-use Rattle.balanced.specs.Witness.{lengthsAt, row, tree, offsets, network, readings, Witnessed, smallRow, smallTree, smallNetwork, fullReadings, Filled, deepRow, fullSlots, tightRow, OnThePath}
+use Rattle.balanced.specs.Witness.{settings, columns, lengthsAt, row, tree, offsets, network, readings, Witnessed, smallRow, smallTree, smallNetwork, fullReadings, Filled, deepRow, fullSlots, tightRow, OnThePath, allSlots, allSuperframes, JustMet}
 use Rattle.balanced.proofs.LawsHold.{every-plan-keeps}
 use Rattle.balanced.proofs.Stretches.{stretch, stretch-le, apart}
 
@@ -39,7 +37,7 @@ use Rattle.balanced.proofs.Stretches.{stretch, stretch-le, apart}
 
 -- to unfold `plans` is to unfold all that a plan is computed with, and to unfold `runs` all that a run is
 plans : Type 0
-unfolding roundedUp burst arrivals wholeFrames serviceTime beaconInterval slot contention reservable airTime acknowledgement spacing exchange framesIn rate slotsFor latency slotsOf framesOf latencyOf reservationOf afterLink after buffer delay figuresBy figuresOf total join firstBroken table valuesOf ranged atOdds checks timingOf reservableOf sensor left near above upward downward sinkAt atSink reservations routers superframes routersFit slotsNeeded usedBelow usedOffPath usedOnPath hasOffPath hasOnPath offPathAt onPathAt usedAt usedFrom conditions linkFor endLink upLink downLink totalDelay sinkFigures letter endLines upLines downLines lines outcomeOf settings columns sameKind Rattle.balanced.specs.Lines.none figuresAt Rattle.balanced.specs.Examples.written numberOf placeOf row smallRow deepRow fullSlots tightRow
+unfolding roundedUp burst arrivals wholeFrames serviceTime beaconInterval slot contention reservable airTime acknowledgement spacing exchange framesIn rate slotsFor latency slotsOf framesOf latencyOf reservationOf afterLink after buffer delay figuresBy figuresOf total join firstBroken table valuesOf ranged atOdds checks timingOf reservableOf sensor left near above upward downward sinkAt atSink reservations routers superframes routersFit slotsNeeded usedBelow usedOffPath usedOnPath hasOffPath hasOnPath offPathAt onPathAt usedAt usedFrom conditions linkFor endLink upLink downLink totalDelay sinkFigures letter endLines upLines downLines lines outcomeOf settings columns sameKind Rattle.balanced.specs.Lines.none figuresAt row smallRow deepRow fullSlots tightRow allSlots allSuperframes
 plans = Unit
 
 runs : Type 0
@@ -218,3 +216,9 @@ filled = record {
 pub on-the-path : OnThePath
 unfolding plans
 on-the-path = record { deep = refl; used = refl; planned = refl; tight = refl; refused = refl }
+
+-- ---- conditions that are just met
+
+pub just-met : JustMet
+unfolding plans
+just-met = record { used = refl; planned = refl; counted = refl; plannedToo = refl }

@@ -17,7 +17,5 @@ pub mod Tree
 pub mod Promise
 -- demands 2 and 3 as statements
 pub mod Laws
--- P1 to P10, computed in one table
-pub mod Examples
--- hypotheses that are met, with traffic, a queue that is full, and slots that are all used
+-- hypotheses that are met, with traffic, a queue that is full, and slots and superframes that are all used
 pub mod Witness

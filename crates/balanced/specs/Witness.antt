@@ -10,14 +10,39 @@ use Rattle.network.specs.Model.{Network, queue}
 use Rattle.network.specs.Readings.{Reading}
 use Rattle.network.specs.Oracle.{run}
 use Rattle.network.specs.Examples.{reading, first, received}
+use Rattle.measure.specs.Measures.{slots}
+use Rattle.refusals.specs.declared.Refusal.the-variants.{SlotsUsed}
 use Rattle.settings.specs.declared.Settings.{Settings}
+use Rattle.balanced.specs.declared.Line.{Line}
 use Rattle.balanced.specs.Times.{timingOf, reservableOf}
-use Rattle.balanced.specs.Checks.{usedOnPath}
-use Rattle.balanced.specs.Lines.{lines}
-use Rattle.balanced.specs.Outcome.{Planned, outcomeOf}
+use Rattle.balanced.specs.Checks.{routers, superframes, usedOffPath, usedOnPath}
+use Rattle.balanced.specs.Lines.{letter, lines}
+use Rattle.balanced.specs.Outcome.{Planned, Refused, outcomeOf}
 use Rattle.balanced.specs.Tree.{Tree, Within, lineOf, networkOf, Windows, Readings}
 use Rattle.balanced.specs.Promise.{sinkLine, Held}
-use Rattle.balanced.specs.Examples.{settings, columns, written}
+
+-- settings in the columns' order
+unfoldable pub settings : ℕ → ℕ → ℕ → ℕ → ℕ → ℕ → ℕ → ℕ → ℕ → ℕ → ℕ → ℕ → Settings
+settings bo so h nr ne own sink burst rate head payload ack = record {
+  bo = bo;
+  so = so;
+  h = h;
+  nr = nr;
+  ne = ne;
+  own = own;
+  sink = sink;
+  burst = burst;
+  rate = rate;
+  head = head;
+  payload = payload;
+  ack = ack;
+}
+
+-- a line's letter and its eight numbers
+unfoldable pub columns : Line → List ℕ
+columns l =
+    letter (l .kind) ∷ l .depth ∷ l .figures .rate .0 ∷ l .figures .burst .0 ∷ l .figures .slots .0 ∷ l .figures .frames .0
+    ∷ l .figures .latency .0 ∷ l .figures .buffer .0 ∷ l .figures .delay .0 ∷ []
 
 -- the lengths of node v's queue at the end of some symbols
 unfoldable pub lengthsAt : Network → List Reading → ℕ → List ℕ → List ℕ
@@ -148,4 +173,22 @@ pub record OnThePath : Type 0 where
   pub planned : outcomeOf fullSlots ≡ Planned (lines fullSlots)
   -- The root has slots enough, 12 of 12, and the router below it on the path has not, 13 of 12: refusal 7, place 1.
   pub tight : usedOnPath tightRow 0 .0 ∷ usedOnPath tightRow 1 .0 ∷ reservableOf tightRow .0 ∷ [] ≡ 12 ∷ 13 ∷ 12 ∷ []
-  pub refused : written (outcomeOf tightRow) ≡ (82 ∷ 7 ∷ 1 ∷ []) ∷ []
+  pub refused : outcomeOf tightRow ≡ Refused (SlotsUsed 1 (slots 13) (slots 12))
+
+-- ---- conditions that are just met
+
+-- P3: `0 0 0 0 4 0 0 1 1 19 7 0`
+unfoldable pub allSlots : Settings
+allSlots = settings 0 0 0 0 4 0 0 1 1 19 7 0
+
+-- P7: `5 4 1 1 1 0 0 1 1 19 7 0`
+unfoldable pub allSuperframes : Settings
+allSuperframes = settings 5 4 1 1 1 0 0 1 1 19 7 0
+
+pub record JustMet : Type 0 where
+  -- 8 slots of 8
+  pub used : usedOffPath allSlots 0 .0 ∷ reservableOf allSlots .0 ∷ [] ≡ 8 ∷ 8 ∷ []
+  pub planned : outcomeOf allSlots ≡ Planned (lines allSlots)
+  -- 2 routers of 2
+  pub counted : routers allSuperframes ∷ superframes allSuperframes ∷ [] ≡ 2 ∷ 2 ∷ []
+  pub plannedToo : outcomeOf allSuperframes ≡ Planned (lines allSuperframes)

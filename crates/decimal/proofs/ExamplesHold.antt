@@ -2,10 +2,11 @@
 use mathlib.Core.Path.{refl}
 use Rattle.decimal.specs.Ascii.{ascii}
 use Rattle.decimal.specs.Number.{digits, zeroLed, shaped, readable, spelledAfter, numberIn}
+use Rattle.decimal.specs.Decimal.{digitsBy, decimal}
 use Rattle.decimal.specs.Examples.{Examples}
 
 pub examples-hold : Examples
-unfolding ascii digits zeroLed shaped readable spelledAfter numberIn
+unfolding ascii digits zeroLed shaped readable spelledAfter numberIn digitsBy decimal
 examples-hold = record {
   zero = refl;
   nine = refl;
@@ -22,4 +23,9 @@ examples-hold = record {
   slash = refl;
   colon = refl;
   last = refl;
+  writtenZero = refl;
+  writtenNine = refl;
+  writtenTen = refl;
+  writtenSix = refl;
+  writtenLargest = refl;
 }

@@ -1,7 +1,11 @@
 -- Laws about the definitions of specs/. Assumes nothing.
 -- digits and what they spell, byte by byte
 pub mod Spelling
--- two readable texts of the same number are the same
+-- two texts of the same number are the same, if each is as a number is written
 pub mod OneSpelling
+-- a number in decimal: its digits, its length, that no other text is one, and that it is read back
+pub mod Writing
+-- a number put in decimal, digit behind digit
+pub mod Putting
 -- the examples
 pub mod ExamplesHold

@@ -1,16 +1,23 @@
--- Two readable texts of the same number are the same text. Assumes nothing.
+-- Two texts of the same number are the same text, if each is proper: at least one digit, digits alone, and no leading zero except 0
+-- itself. Assumes nothing.
 use mathlib.Core.Path.{_≡_, refl}
-use mathlib.Core.Bool.{true, not, _&&_, and-eq-true-iff}
+use mathlib.Core.Bool.{true, false, not, _&&_, and-eq-true-iff}
 use mathlib.Core.List.{List, [], _∷_}
 use Prim.Native.Nat.{ℕ, _+_, _-_, _*_, _^_, _≤_, _<_}
 use native.Mathlib.Omega.{arith}
 use native.Mathlib.Decide.{decLe}
 use native.Mathlib.Nat.{pow-suc, pow-le-pow-right, pow-zero, mul-le-mul-right}
-use lib.Dec.{eqb, leb}
+use lib.Dec.{leb}
 use lib.ListN.{length}
 use borrow.Author.Tests.{eqb-false, not-true}
 use Rattle.decimal.specs.Number.{digit, digits, zeroLed, shaped, readable, spelledAfter, spelled}
 use Rattle.decimal.proofs.Spelling.{digit-range, shaped-length}
+
+-- a text that spells a number as it is written, of any length
+pub record Proper (s : List ℕ) : Type 0 where
+  pub some : 1 ≤ length s
+  pub onlyDigits : digits s ≡ true
+  pub noLeadingZero : zeroLed s ≡ false
 
 pub digits-head : (b : ℕ) (bs : List ℕ) → digits (b ∷ bs) ≡ true → (48 ≤ b) × (b ≤ 57) × (digits bs ≡ true)
 unfolding digits
@@ -50,32 +57,37 @@ same-length v w (b ∷ bs) (c ∷ cs) d e l q =
     let z = r .1 in
     (x, cc)
 
--- the longer of two readable texts spells the larger number
-longer : (s t : List ℕ) → readable s ≡ true → readable t ≡ true → length s < length t → spelled s < spelled t
-unfolding readable shaped zeroLed spelledAfter
-longer s [] d e l = absurd (omega arith)
-longer s (c ∷ []) d e l =
-    let h = and-eq-true-iff (shaped s) (digits s) .0 d in absurd (omega (arith, shaped-length s (h .0)))
-longer s (c ∷ x ∷ xs) d e l =
-    let h = and-eq-true-iff (shaped s) (digits s) .0 d in
-    let g = and-eq-true-iff (shaped (c ∷ x ∷ xs)) (digits (c ∷ x ∷ xs)) .0 e in
-    let f = and-eq-true-iff (leb 1 (length (c ∷ x ∷ xs)) && leb (length (c ∷ x ∷ xs)) 4) (not (eqb c 48)) .0 (g .0) in
-    let r = digits-head c (x ∷ xs) (g .1) in
-    let n = eqb-false c 48 (not-true (eqb c 48) (f .1)) in
-    let p : 1 ≤ 10 * 0 + (c - 48) = omega (arith, r) in
+-- the longer of two proper texts spells the larger number
+longer : (s t : List ℕ) → Proper s → Proper t → length s < length t → spelled s < spelled t
+unfolding zeroLed spelledAfter
+longer s [] p q l = absurd (omega arith)
+longer s (c ∷ []) p q l = absurd (omega (arith, p .some))
+longer s (c ∷ x ∷ xs) p q l =
+    let r = digits-head c (x ∷ xs) (q .onlyDigits) in
+    let n = eqb-false c 48 (q .noLeadingZero) in
+    let d : 1 ≤ 10 * 0 + (c - 48) = omega (arith, r) in
     let k : length s ≤ length (x ∷ xs) = omega arith in
     let ten : 0 < 10 = omega arith in
     let low : (10 * 0 + (c - 48)) * 10 ^ length (x ∷ xs) ≤ spelled (c ∷ x ∷ xs) = spelled-bounds (10 * 0 + (c - 48)) (x ∷ xs) (r .2) .0 in
-    let high = spelled-bounds 0 s (h .1) .1 in
-    omega (arith, low, high, mul-le-mul-right (10 ^ length (x ∷ xs)) p, pow-le-pow-right ten k)
+    let high = spelled-bounds 0 s (p .onlyDigits) .1 in
+    omega (arith, low, high, mul-le-mul-right (10 ^ length (x ∷ xs)) d, pow-le-pow-right ten k)
 
-pub one-spelling : (s t : List ℕ) → readable s ≡ true → readable t ≡ true → spelled s ≡ spelled t → s ≡ t
-unfolding readable
-one-spelling s t d e q = by (decLe (length s) (length t)) (decLe (length t) (length s)) where
+-- two proper texts of the same number are the same
+pub one-proper : (s t : List ℕ) → Proper s → Proper t → spelled s ≡ spelled t → s ≡ t
+one-proper s t p q e = by (decLe (length s) (length t)) (decLe (length t) (length s)) where
   by : Dec (length s ≤ length t) → Dec (length t ≤ length s) → s ≡ t
-  by (yes a) (yes b) =
-      let h = and-eq-true-iff (shaped s) (digits s) .0 d in
-      let g = and-eq-true-iff (shaped t) (digits t) .0 e in
-      same-length 0 0 s t (h .1) (g .1) (omega arith) q .1
-  by (no a) c = absurd (omega (arith, longer t s e d (omega arith)))
-  by (yes a) (no b) = absurd (omega (arith, longer s t d e (omega arith)))
+  by (yes a) (yes b) = same-length 0 0 s t (p .onlyDigits) (q .onlyDigits) (omega arith) e .1
+  by (no a) c = absurd (omega (arith, longer t s q p (omega arith)))
+  by (yes a) (no b) = absurd (omega (arith, longer s t p q (omega arith)))
+
+-- a readable text is proper
+readable-proper : (s : List ℕ) → readable s ≡ true → Proper s
+unfolding readable shaped
+readable-proper s e =
+    let h = and-eq-true-iff (shaped s) (digits s) .0 e in
+    let g = and-eq-true-iff (leb 1 (length s) && leb (length s) 4) (not (zeroLed s)) .0 (h .0) in
+    record { some = shaped-length s (h .0) .0; onlyDigits = h .1; noLeadingZero = not-true (zeroLed s) (g .1) }
+
+-- two readable texts of the same number are the same
+pub one-spelling : (s t : List ℕ) → readable s ≡ true → readable t ≡ true → spelled s ≡ spelled t → s ≡ t
+one-spelling s t d e q = one-proper s t (readable-proper s d) (readable-proper t e) q

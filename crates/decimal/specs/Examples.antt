@@ -1,9 +1,11 @@
--- Small texts and the numbers that they spell, computed in one table. Assumes nothing.
+-- Both directions, computed in one table: small texts and the numbers that they spell, and numbers and their texts in decimal. Assumes
+-- nothing.
 use mathlib.Core.Path.{_≡_}
 use mathlib.Core.List.{[], _∷_}
 use Rattle.decimal.specs.declared.Number.the-variants.{Value, Unreadable}
 use Rattle.decimal.specs.Ascii.{ascii}
 use Rattle.decimal.specs.Number.{numberIn}
+use Rattle.decimal.specs.Decimal.{decimal}
 
 pub record Examples : Type 0 where
   pub zero : numberIn (ascii "0") ≡ Value 0
@@ -22,3 +24,9 @@ pub record Examples : Type 0 where
   pub slash : numberIn (47 ∷ []) ≡ Unreadable
   pub colon : numberIn (58 ∷ []) ≡ Unreadable
   pub last : numberIn (255 ∷ []) ≡ Unreadable
+  -- written: one digit, two, six with a zero inside, and the largest number of 64 bits
+  pub writtenZero : decimal 0 ≡ ascii "0"
+  pub writtenNine : decimal 9 ≡ ascii "9"
+  pub writtenTen : decimal 10 ≡ ascii "10"
+  pub writtenSix : decimal 571904 ≡ ascii "571904"
+  pub writtenLargest : decimal 18446744073709551615 ≡ ascii "18446744073709551615"

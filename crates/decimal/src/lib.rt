@@ -1,10 +1,13 @@
-// Decimal numbers in ASCII.
+// Decimal numbers in ASCII, read and written.
 //
-// No public function has a `requires`: each answers every argument, as an equation with a definition of specs/ says.
+// No public function has a `requires`: each answers every argument, as equations with definitions of specs/ say.
 ghost use mathlib.Core.Path.{_≡_};
 ghost use Prim.Native.Nat.{_<_, _≤_};
 ghost use lib.ListN.{length};
+ghost use lib.Seq.{sets};
 ghost use Rattle.decimal.specs.Number.{digit, shaped, numberIn};
+ghost use Rattle.decimal.specs.Decimal.{decimal};
+use buffer::put_byte;
 
 // What bytes spell: a number, or none that document 01 reads ('Rows of settings').
 pub enum Number {
@@ -62,4 +65,18 @@ fn wide(b: u8) -> u64
     ensures { λ r. ⌜ (r ≡ b) × (r < 256) ⌝ }
 {
     b as u64
+}
+
+// Puts a number in decimal at a position of lent memory, as far as there is room, and answers how many digits it has.
+pub fn put_number(out: &mut [u8], at: usize, n: u64) -> usize
+    ensures { λ r. ⌜ r ≡ length (decimal n) ⌝ }
+    ensures { λ _. ⌜ now (out .exit) ≡ sets (now (out .entry)) at (decimal n) ⌝ }
+{
+    if n < 10 {
+        put_byte(out, at, 0, 48 + n as u8);
+        return 1;
+    }
+    let k = put_number(out, at, n / 10);
+    put_byte(out, at, k, 48 + (n % 10) as u8);
+    k + 1
 }

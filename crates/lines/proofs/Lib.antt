@@ -5,6 +5,8 @@ pub mod Cutting
 pub mod LineLaws
 -- a line put together again from its values
 pub mod Joining
+-- texts parted again into the values or lines that made them
+pub mod Parting
 -- the laws of specs/Laws
 pub mod LawsHold
 -- the examples

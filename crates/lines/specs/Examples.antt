@@ -1,9 +1,11 @@
 -- Small texts and their lines and values, computed in one table. Assumes nothing.
 use mathlib.Core.Path.{_≡_}
+use mathlib.Core.Bool.{true, false}
 use mathlib.Core.List.{[], _∷_}
 use Prim.Native.Nat.{ℕ}
 use Rattle.lines.specs.declared.Line.the-variants.{Found, Nothing}
-use Rattle.lines.specs.Text.{fields, lines, lineAt, partOf}
+use Rattle.lines.specs.Text.{fields, joined, lines, ended, lineAt, partOf}
+use Rattle.lines.specs.Laws.{lacks, allLack}
 
 -- bytes a and b, a space and the line end LF
 abbrev pub a : ℕ
@@ -42,3 +44,16 @@ pub record Examples : Type 0 where
   pub inside : partOf (a ∷ b ∷ lf ∷ a ∷ []) 1 3 ≡ b ∷ lf ∷ []
   pub endBeforeStart : partOf (a ∷ b ∷ lf ∷ a ∷ []) 3 1 ≡ []
   pub endPastText : partOf (a ∷ b ∷ lf ∷ a ∷ []) 1 5 ≡ []
+  -- texts made of values and of lines
+  pub joinedNone : joined [] ≡ []
+  pub joinedOne : joined ((a ∷ b ∷ []) ∷ []) ≡ a ∷ b ∷ []
+  pub joinedThree : joined ((a ∷ []) ∷ [] ∷ (b ∷ []) ∷ []) ≡ a ∷ sp ∷ sp ∷ b ∷ []
+  pub endedNone : ended [] ≡ []
+  pub endedTwo : ended ((a ∷ []) ∷ [] ∷ []) ≡ a ∷ lf ∷ lf ∷ []
+  -- a byte that a text has not, and one that none of several texts has
+  pub lacksNone : lacks sp [] ≡ true
+  pub lacksOther : lacks sp (a ∷ lf ∷ []) ≡ true
+  pub lacksOne : lacks sp (a ∷ sp ∷ []) ≡ false
+  pub allLackNone : allLack sp [] ≡ true
+  pub allLackOther : allLack sp ((a ∷ []) ∷ (lf ∷ []) ∷ []) ≡ true
+  pub allLackOne : allLack sp ((a ∷ []) ∷ (sp ∷ []) ∷ []) ≡ false

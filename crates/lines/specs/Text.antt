@@ -33,6 +33,11 @@ joined (f ∷ g ∷ gs) = f ++ 32 ∷ joined (g ∷ gs)
 unfoldable pub lines : List ℕ → List (List ℕ)
 lines text = pieces 10 [] text
 
+-- the text that has these lines, each with its LF
+unfoldable pub ended : List (List ℕ) → List ℕ
+ended [] = []
+ended (l ∷ ls) = l ++ 10 ∷ ended ls
+
 -- what stands at a position of a text of that size, from the lines of the rest
 unfoldable pub firstLine : List (List ℕ) → ℕ → ℕ → Line
 firstLine [] at size = Nothing

@@ -60,7 +60,7 @@ fn check_before_slots(s: Settings) -> Verdict
 }
 
 // The plan of refused settings.
-pub(crate) fn refused_plan(refusal: Refusal) -> Plan
+pub fn refused_plan(refusal: Refusal) -> Plan
     ensures { λ r. ⌜ r ≡ refused refusal ⌝ }
 {
     let sheet = empty_sheet();

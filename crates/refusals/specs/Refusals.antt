@@ -1,7 +1,7 @@
 -- Number and place of each refusal (document 01, the table of 'Rows of settings'). Assumes nothing: these are definitions.
 use Prim.Native.Nat.{ℕ}
 use Rattle.refusals.specs.declared.Refusal.{Refusal}
-use Rattle.refusals.specs.declared.Refusal.the-variants.{Names, Unreadable, OutOfRange, AtOdds, Reservations, Superframes, SlotsUsed}
+use Rattle.refusals.specs.declared.Refusal.the-variants.{Names, Unreadable, OutOfRange, AtOdds, Reservations, Superframes, SlotsUsed, LentTooShort, InputTooLong}
 use Rattle.refusals.specs.declared.Conflict.{Conflict}
 use Rattle.refusals.specs.declared.Conflict.the-variants.{Orders, Routers, Sensors, SinkDepth, SinkBranches, FrameLength}
 
@@ -24,8 +24,10 @@ numberOf (AtOdds conflict) = 4
 numberOf (Reservations ne nr) = 5
 numberOf (Superframes routers superframes) = 6
 numberOf (SlotsUsed depth used reservable) = 7
+numberOf LentTooShort = 8
+numberOf InputTooLong = 9
 
--- the place of a refusal: 0, "its column, 13 for text after", "its column", "as given", 0, 0, "first such depth"
+-- the place of a refusal: 0, "its column, 13 for text after", "its column", "as given", 0, 0, "first such depth", 0, 0
 unfoldable pub placeOf : Refusal → ℕ
 placeOf Names = 0
 placeOf (Unreadable column) = column
@@ -34,3 +36,5 @@ placeOf (AtOdds conflict) = conflictPlace conflict
 placeOf (Reservations ne nr) = 0
 placeOf (Superframes routers superframes) = 0
 placeOf (SlotsUsed depth used reservable) = depth
+placeOf LentTooShort = 0
+placeOf InputTooLong = 0

@@ -1,12 +1,11 @@
-// Refusals 1 to 7 of document 01's table ('Rows of settings'): every reason for which settings are refused, in one place. Numbers 8 and
-// 9 are of lent memory and of a program's input.
+// Document 01's table of refusals ('Rows of settings'), 1 to 9: every reason for which something is refused, in one place.
 //
 // No public function has a `requires`: each answers every argument, as an equation with a definition of specs/ says.
 ghost use mathlib.Core.Path.{_≡_};
 ghost use Rattle.refusals.specs.Refusals.{numberOf, placeOf, conflictPlace};
 use measure::Slots;
 
-// Why settings are refused, with the values concerned. Columns count from 1.
+// Why something is refused, with the values concerned. Columns count from 1.
 pub enum Refusal {
     // 1: the name line differs or is missing.
     Names,
@@ -37,6 +36,10 @@ pub enum Refusal {
         used: Slots,
         reservable: Slots,
     },
+    // 8: the lent buffer is shorter than the text to be written. In the library only.
+    LentTooShort,
+    // 9: a program's input is over 65,536 bytes. In programs only, where it comes before all others.
+    InputTooLong,
 }
 
 // Which values are at odds with each other, and what they are.
@@ -78,6 +81,8 @@ impl Refusal {
                 used: _,
                 reservable: _,
             } => 7,
+            Refusal::LentTooShort => 8,
+            Refusal::InputTooLong => 9,
         }
     }
 
@@ -100,6 +105,8 @@ impl Refusal {
                 used: _,
                 reservable: _,
             } => depth,
+            Refusal::LentTooShort => 0,
+            Refusal::InputTooLong => 0,
         }
     }
 }

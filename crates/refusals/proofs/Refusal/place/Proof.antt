@@ -28,6 +28,12 @@ enum-told-3 c = search needs
 enum-known-self-4 : tie.Need-enum-known-self-4
 enum-known-self-4 c = search needs
 
+enum-told-4 : tie.Need-enum-told-4
+enum-told-4 c = search needs
+
+enum-told-5 : tie.Need-enum-told-5
+enum-told-5 c = search needs
+
 returns : tie.Need-returns
 unfolding placeOf
 returns c = rw (c .enum-told .given .1)
@@ -56,6 +62,14 @@ returns-7 : tie.Need-returns-7
 unfolding placeOf
 returns-7 c = rw (c .before .self4 .given .1)
 
+returns-8 : tie.Need-returns-8
+unfolding placeOf
+returns-8 c = rw (c .enum-told4 .given .1)
+
+returns-9 : tie.Need-returns-9
+unfolding placeOf
+returns-9 c = rw (c .enum-told5 .given .1)
+
 pub place-spec : {M : Type 1} → statement M
 place-spec =
     tie.close
@@ -68,10 +82,14 @@ place-spec =
     enum-told-2
     enum-told-3
     enum-known-self-4
+    enum-told-4
+    enum-told-5
     returns
     returns-2
     returns-3
     returns-4
     returns-5
     returns-6
-    returns-7)
+    returns-7
+    returns-8
+    returns-9)

@@ -1,0 +1,30 @@
+-- `answers::plan_read` meets its contract. Assumes nothing.
+use mathlib.Core.Path.{_∙_}
+use Rattle.planner.specs.Plans.{answer, planOf}
+use Rattle.answers.specs.Inner.{readOutcome}
+use borrow.Author.Needs.{needs}
+use Rattle.answers.proofs.plan_read.Statement.{statement}
+use Rattle.answers.proofs.plan_read.Tie as tie
+
+enum-known-row : tie.Need-enum-known-row
+enum-known-row c = search needs
+
+plan-of-requires : tie.Need-plan-of-requires
+plan-of-requires c κs = search needs
+
+enum-known-row-2 : tie.Need-enum-known-row-2
+enum-known-row-2 c = search needs
+
+refused-plan-requires : tie.Need-refused-plan-requires
+refused-plan-requires c κs = search needs
+
+returns : tie.Need-returns
+unfolding readOutcome planOf
+returns c = rw (c .before .before .row .given .1) (c .plan-of .ensures .0)
+
+returns-2 : tie.Need-returns-2
+unfolding readOutcome answer
+returns-2 c = rw (c .before .before .row2 .given .1) (c .refused-plan .ensures)
+
+pub plan-read-spec : {M : Type 1} → statement M
+plan-read-spec = tie.close (tie.spec enum-known-row plan-of-requires enum-known-row-2 refused-plan-requires returns returns-2)

@@ -1,0 +1,8 @@
+-- The outcome of a row that was read, or refused while it was read. Assumes nothing: these are definitions.
+use Rattle.row.specs.declared.Row.{Row}
+use Rattle.row.specs.declared.Row.the-variants as row
+use Rattle.balanced.specs.Outcome.{Outcome, Refused, outcomeOf}
+
+unfoldable pub readOutcome : Row → Outcome
+readOutcome (row.Read s) = outcomeOf s
+readOutcome (row.Refused r) = Refused r

@@ -1,0 +1,81 @@
+-- Numbers 9 and 1 of an input, and the text of a row, as code finds them. Assumes nothing.
+use mathlib.Core.Path.{_≡_, refl, ap, sym, _∙_}
+use mathlib.Core.Bool.{Bool, true, false}
+use mathlib.Core.List.{List, [], _∷_, _++_}
+use Prim.Native.Nat.{ℕ, _≤_, _<_}
+use lib.ListN.{length, getD, take, drop}
+use lib.Dec.{ltb}
+use borrow.Author.Tests.{lt-ltb, le-ltb}
+use Rattle.lines.specs.declared.Cursor.{Cursor}
+use Rattle.lines.specs.declared.Line.the-variants.{Found, Nothing}
+use Rattle.decimal.specs.Ascii.{ascii}
+use Rattle.lines.specs.Text.{joined, lines, lineAt, partOf}
+use Rattle.lines.proofs.LawsHold.{found-advances, nothing-is-left}
+use Rattle.refusals.specs.declared.Refusal.{Refusal}
+use Rattle.refusals.specs.declared.Refusal.the-variants.{Names, InputTooLong}
+use Rattle.refusals.specs.declared.Verdict.the-variants.{Kept, Broken}
+use Rattle.refusals.specs.Conditions.{firstBroken}
+use Rattle.refusals.proofs.Answering.{verdict, answer-broken, answer-kept}
+use Rattle.settings.specs.Columns.{table}
+use Rattle.row.specs.Names.{isNameLine, same, nameLine}
+use Rattle.row.specs.Rows.{named}
+use Rattle.balanced.specs.Outcome.{Outcome, Planned, Refused}
+use Rattle.planner.specs.declared.Plan.{Plan}
+use Rattle.planner.specs.Plans.{answer}
+use Rattle.answers.proofs.Answering.{answer-refused, answer-planned}
+use Rattle.report.specs.Text.{text, refusalText}
+use Rattle.batch.specs.Output.{printed, tooLong, inputConditions}
+use Rattle.batch.specs.Steps.{rowsFrom, behind, opening}
+
+module _ (input : List ℕ) where
+  -- number 9
+  pub too-long : 65536 < length input → Broken InputTooLong ≡ verdict (inputConditions input)
+  unfolding firstBroken inputConditions tooLong
+  too-long h = rw (lt-ltb 65536 (length input) h)
+
+  module _ (h : length input ≤ 65536) where
+    -- number 1, by the first line
+    by-names : (line : List ℕ) → getD (lines input) 0 [] ≡ line → verdict (inputConditions input) ≡ verdict (named line)
+    unfolding firstBroken inputConditions tooLong
+    by-names line e = rw (le-ltb 65536 (length input) h, e)
+
+    -- there is no line
+    pub no-names : lineAt input 0 ≡ Nothing → Broken Names ≡ verdict (inputConditions input)
+    unfolding firstBroken named isNameLine same nameLine joined table ascii
+    no-names e = sym (by-names [] (ap (λ (ls : List (List ℕ)). getD ls 0 []) (nothing-is-left input 0 e)))
+
+    -- the first line, and whether it is the name line
+    module _ (from end : ℕ) (next : Cursor) (e : lineAt input 0 ≡ Found from end next) where
+      first-line : getD (lines input) 0 [] ≡ partOf input from end
+      first-line = ap (λ (ls : List (List ℕ)). getD ls 0 []) (found-advances input 0 from end next e .first)
+
+      pub right-names : isNameLine (partOf input from end) ≡ true → Kept ≡ verdict (inputConditions input)
+      unfolding firstBroken named
+      right-names n = sym (by-names (partOf input from end) first-line ∙ rw n)
+
+      pub other-names : isNameLine (partOf input from end) ≡ false → Broken Names ≡ verdict (inputConditions input)
+      unfolding firstBroken named
+      other-names n = sym (by-names (partOf input from end) first-line ∙ rw n)
+
+  -- the first step
+  pub opening-refused : (r : Refusal) → verdict (inputConditions input) ≡ Broken r
+      → opening input ≡ record { bytes = refusalText r; next = rowsFrom (length input); more = true }
+  unfolding opening
+  opening-refused r v = rw (answer-broken refusalText [] (inputConditions input) r v, answer-broken (λ x. length input) (behind (lineAt input 0)) (inputConditions input) r v)
+
+  pub opening-named : verdict (inputConditions input) ≡ Kept
+      → opening input ≡ record { bytes = []; next = rowsFrom (behind (lineAt input 0)); more = true }
+  unfolding opening
+  opening-named v = rw (answer-kept refusalText [] (inputConditions input) v, answer-kept (λ x. length input) (behind (lineAt input 0)) (inputConditions input) v)
+
+-- the text of a row, by the plan that it was answered
+module _ (o : Outcome) (plan : Plan) (e : plan ≡ answer o) where
+  pub row-refused : (r : Refusal) → plan .verdict ≡ Broken r → refusalText r ≡ printed o
+  unfolding printed
+  row-refused r v = let q = answer-refused o r (sym (ap (λ (p : Plan). p .verdict) e) ∙ v) in rw q
+
+  pub row-planned : plan .verdict ≡ Kept → text (take (plan .count) (plan .lines)) ≡ printed o
+  unfolding printed
+  row-planned v =
+      let q = answer-planned o (sym (ap (λ (p : Plan). p .verdict) e) ∙ v) in
+      rw q (ap (λ (p : Plan). text (take (p .count) (p .lines))) e)

@@ -1,0 +1,22 @@
+-- `batch::line_end` meets its contract. Assumes nothing.
+use Rattle.batch.specs.Steps.{behind}
+use borrow.Author.Needs.{needs}
+use Rattle.batch.proofs.line_end.Statement.{statement}
+use Rattle.batch.proofs.line_end.Tie as tie
+
+enum-known-line : tie.Need-enum-known-line
+enum-known-line c = search needs
+
+enum-told : tie.Need-enum-told
+enum-told c = search needs
+
+returns : tie.Need-returns
+unfolding behind
+returns c = rw (c .before .line .given .1)
+
+returns-2 : tie.Need-returns-2
+unfolding behind
+returns-2 c = rw (c .enum-told .given .1)
+
+pub line-end-spec : {M : Type 1} → statement M
+line-end-spec = tie.close (tie.spec enum-known-line enum-told returns returns-2)

@@ -1,0 +1,59 @@
+-- `batch::next_row` meets its contract. Assumes nothing.
+use mathlib.Core.Path.{sym, _∙_}
+use native.Mathlib.Omega.{arith}
+use Rattle.batch.specs.Steps.{rowAt, piece}
+use borrow.Author.Needs.{needs}
+use Rattle.batch.proofs.next_row.Statement.{statement}
+use Rattle.batch.proofs.next_row.Tie as tie
+
+next-line-requires : tie.Need-next-line-requires
+next-line-requires c κs = search needs
+
+enum-known-line : tie.Need-enum-known-line
+enum-known-line c = search needs
+
+enum-told : tie.Need-enum-told
+enum-told c = search needs
+
+rows-from-requires : tie.Need-rows-from-requires
+rows-from-requires c κs = search needs
+
+returns : tie.Need-returns
+unfolding rowAt piece
+returns c =
+    let e = sym (c .before .before .before .next-line .ensures) ∙ c .before .enum-told .given .1 in
+    (rw (e, c .rows-from .ensures), (omega arith, rw e))
+
+part-requires : tie.Need-part-requires
+part-requires c κs = search needs
+
+put-row-requires : tie.Need-put-row-requires
+put-row-requires c κs = search needs
+
+rows-from-requires-2 : tie.Need-rows-from-requires-2
+rows-from-requires-2 c κs = search needs
+
+same-length : tie.Need-same-length
+same-length c = search needs
+
+returns-2 : tie.Need-returns-2
+unfolding rowAt piece
+returns-2 c =
+    let e = sym (c .before .before .before .before .before .before .before .before .before .next-line .ensures) ∙ c .before .before .before .before .before .before .before .line .given .1 in
+    let put = c .before .before .before .put-row .ensures in
+    (rw (e, c .rows-from2 .ensures, put .0, c .before .before .before .before .before .part .ensures), (put .1 .0, rw e (put .1 .1 ∙ rw (c .before .before .before .before .before .part .ensures))))
+
+pub next-row-spec : {M : Type 1} → statement M
+next-row-spec =
+    tie.close
+    (tie.spec
+    next-line-requires
+    enum-known-line
+    enum-told
+    rows-from-requires
+    returns
+    part-requires
+    put-row-requires
+    rows-from-requires-2
+    same-length
+    returns-2)

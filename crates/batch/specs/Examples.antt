@@ -1,0 +1,63 @@
+-- P1 to P10 (document 01, 'Plans and limits worked through'), from bytes to bytes, in one table: each row as it is read, and what is
+-- printed for it. Assumes nothing.
+use mathlib.Core.Path.{_≡_}
+use mathlib.Core.List.{List, [], _∷_, map}
+use Prim.Native.Nat.{ℕ}
+use Prim.Native.String.{String}
+use Rattle.decimal.specs.Ascii.{ascii}
+use Rattle.lines.specs.Text.{ended}
+use Rattle.batch.specs.Output.{output}
+
+-- what an example is of, its row, and the lines that document 01 prints or states
+pub record Example : Type 0 where
+  pub of : String
+  pub row : String
+  pub stated : List String
+
+abbrev pub planned : String → String → List String → Example
+planned t r ls = record { of = t; row = r; stated = "KIND DEPTH RATE BURST SLOTS FRAMES LATENCY BUFFER DELAY" ∷ ls }
+
+abbrev pub refused : String → String → String → Example
+refused t r l = record { of = t; row = r; stated = l ∷ [] }
+
+unfoldable pub examples : List Example
+examples =
+    planned "P1" "8 4 1 2 1 0 0 1 1 19 7 0"
+    ("E 0 1 245760 1 9 245032 2 272339" ∷ "U 1 1 490792 1 9 245032 3 299565" ∷ "S 0 3 1962440 0 0 0 8 571904" ∷ [])
+    ∷ planned "P2: the same with SINK 1" "8 4 1 2 1 0 1 1 1 19 7 0"
+    ("E 0 1 245760 1 9 245032 2 272339"
+    ∷ "U 1 1 490792 1 9 245032 3 299565"
+    ∷ "D 0 2 1226616 1 9 245032 7 381323"
+    ∷ "S 1 3 2207472 0 0 0 9 953227"
+    ∷ [])
+    ∷ planned "P3 is planned: k = 2, m = 1, T = 1064, E delay 2024" "0 0 0 0 4 0 0 1 1 19 7 0"
+    ("E 0 1 960 2 1 1064 3 2024" ∷ "S 0 4 8096 0 0 0 9 2024" ∷ [])
+    ∷ refused "P4, NE 5 there: refusal 7, place 0" "0 0 0 0 5 0 0 1 1 19 7 0" "R 7 0"
+    ∷ planned "P5, M = 18, SO 0, RATE 1: k = 1" "4 0 0 0 1 0 0 1 1 17 1 0"
+    ("E 0 1 15360 1 1 15420 3 30780" ∷ "S 0 1 30780 0 0 0 3 30780" ∷ [])
+    ∷ planned "P6, RATE 2 there: k = 2" "4 0 0 0 1 0 0 1 2 17 1 0"
+    ("E 0 2 15360 2 2 15360 3 23040" ∷ "S 0 2 46080 0 0 0 3 23040" ∷ [])
+    ∷ planned "P7: 2 routers of 2 pass check 6" "5 4 1 1 1 0 0 1 1 19 7 0"
+    ("E 0 1 30720 1 9 29992 2 33406" ∷ "U 1 1 60712 1 9 29992 3 36738" ∷ "S 0 2 151416 0 0 0 5 70144" ∷ [])
+    ∷ refused "P8, NR 2 there: refused" "5 4 1 2 1 0 0 1 1 19 7 0" "R 6 0"
+    ∷ planned "P9, H 1, NR 4, NE 3 passes check 5" "8 4 1 4 3 0 0 1 1 19 7 0"
+    ("E 0 1 245760 1 9 245032 2 272339" ∷ "U 1 3 1472376 1 9 245032 9 408630" ∷ "S 0 15 10302264 0 0 0 42 680969" ∷ [])
+    ∷ refused "P10, NE 4 there: refused" "8 4 1 4 4 0 0 1 1 19 7 0" "R 5 0"
+    ∷ []
+
+-- what is printed for the name line and that row
+unfoldable pub ours : Example → List ℕ
+ours e = output (ended (ascii "BO SO H NR NE OWN SINK BURST RATE HEAD DATA ACK" ∷ ascii (e .row) ∷ []))
+
+-- the theorem; proofs/ExamplesHold proves it by computing both sides
+unfoldable pub ExamplesHold : Type 0
+ExamplesHold = map ours examples ≡ map (λ e. ended (map ascii (e .stated))) examples
+
+-- the whole input: the name line alone, a text without one, rows behind a refused one, a last row without its LF
+pub record InputsHold : Type 0 where
+  pub namesAlone : output (ascii "BO SO H NR NE OWN SINK BURST RATE HEAD DATA ACK\n") ≡ []
+  pub namesWithoutEnd : output (ascii "BO SO H NR NE OWN SINK BURST RATE HEAD DATA ACK") ≡ []
+  pub empty : output [] ≡ ascii "R 1 0\n"
+  pub noNames : output (ascii "8 4 1 2 1 0 0 1 1 19 7 0\n8 4 1 2 1 0 0 1 1 19 7 0\n") ≡ ascii "R 1 0\n"
+  pub several : output (ascii "BO SO H NR NE OWN SINK BURST RATE HEAD DATA ACK\n08 4 1 2 1 0 0 1 1 19 7 0\n\n0 0 0 0 4 0 0 1 1 19 7 0\n0 0 0 0 5 0 0 1 1 19 7 0")
+      ≡ ascii "R 2 1\nR 2 1\nKIND DEPTH RATE BURST SLOTS FRAMES LATENCY BUFFER DELAY\nE 0 1 960 2 1 1064 3 2024\nS 0 4 8096 0 0 0 9 2024\nR 7 0\n"

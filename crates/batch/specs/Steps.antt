@@ -1,0 +1,62 @@
+-- The output piece by piece, as a program writes it. Assumes nothing: these are definitions.
+use Prim.Native.Nat.{ℕ, zero, suc}
+use mathlib.Core.Bool.{Bool, true, false, cond}
+use mathlib.Core.List.{List, [], _++_}
+use lib.ListN.{length}
+use Rattle.lines.specs.declared.Line.{Line}
+use Rattle.lines.specs.declared.Line.the-variants.{Found, Nothing}
+use Rattle.lines.specs.Text.{lineAt, partOf}
+use Rattle.refusals.specs.Conditions.{firstBroken}
+use Rattle.answers.specs.Outcomes.{rowOutcome}
+use Rattle.report.specs.Text.{refusalText}
+use Rattle.batch.specs.declared.Progress.{Progress}
+use Rattle.batch.specs.declared.Piece.{Piece}
+use Rattle.batch.specs.Output.{printed, inputConditions}
+
+-- nothing printed yet
+unfoldable pub start : Progress
+start = record { at = 0; begun = false }
+
+-- the next row starts there
+abbrev pub rowsFrom : ℕ → Progress
+rowsFrom n = record { at = n; begun = true }
+
+-- a step: what is printed, and how it goes on; `more` is false where all was printed
+pub record Step : Type 0 where
+  pub bytes : List ℕ
+  pub next : Progress
+  pub more : Bool
+
+-- the position behind a line
+unfoldable pub behind : Line → ℕ
+behind (Found start end next) = next .at
+behind Nothing = 0
+
+-- the first step: the refusal of the input, behind which nothing follows, or the name line, for which nothing is printed
+unfoldable pub opening : List ℕ → Step
+opening input = record {
+  bytes = firstBroken refusalText [] (inputConditions input);
+  next = rowsFrom (firstBroken (λ r. length input) (behind (lineAt input 0)) (inputConditions input));
+  more = true;
+}
+
+-- a further step: the row at a position, where there is one
+unfoldable pub rowAt : List ℕ → ℕ → Line → Step
+rowAt input at (Found start end next) = record {
+  bytes = printed (rowOutcome (partOf input start end));
+  next = rowsFrom (next .at);
+  more = true;
+}
+rowAt input at Nothing = record { bytes = []; next = rowsFrom at; more = false }
+
+unfoldable pub step : List ℕ → Progress → Step
+step input p = cond (p .begun) (rowAt input (p .at) (lineAt input (p .at))) (opening input)
+
+-- the answer to a step
+unfoldable pub piece : Step → Piece
+piece s = record { length = length (s .bytes); next = s .next; more = s .more }
+
+-- what is printed in at most n steps
+unfoldable pub printedFrom : ℕ → List ℕ → Progress → List ℕ
+printedFrom zero input p = []
+printedFrom (suc n) input p = cond (step input p .more) (step input p .bytes ++ printedFrom n input (step input p .next)) []

@@ -1,0 +1,164 @@
+// A whole input, name line and rows, and what is printed for it (document 01, 'The printed plan'): piece by piece, so that a program
+// can write each before the next is made.
+//
+// No public function has a `requires`: each answers every argument, as equations with definitions of specs/ say.
+ghost use mathlib.Core.Path.{_≡_};
+ghost use Prim.Native.Nat.{_≤_};
+ghost use lib.ListN.{length};
+ghost use lib.Seq.{sets};
+ghost use Rattle.lines.specs.Text.{lineAt};
+ghost use Rattle.refusals.specs.declared.Verdict.the-variants.{Kept, Broken};
+ghost use Rattle.refusals.specs.Conditions.{firstBroken};
+ghost use Rattle.answers.specs.Outcomes.{rowOutcome};
+ghost use Rattle.batch.specs.Output.{inputConditions, printed};
+ghost use Rattle.batch.specs.Steps.{start, rowsFrom, behind, opening, rowAt, step, piece};
+use answers::plan_row;
+use lines::Cursor;
+use lines::Line;
+use lines::next_line;
+use lines::part;
+use refusals::Refusal;
+use refusals::Verdict;
+use report::put_plan;
+use report::put_refusal;
+use row::names_match;
+
+// No input may be longer.
+const LIMIT: usize = 65536;
+
+// How far an input was printed: nothing yet, or all before the row that starts at `at`.
+pub struct Progress {
+    pub at: usize,
+    pub begun: bool,
+}
+
+// The next piece: its length, how it goes on behind it, and whether there was one.
+pub struct Piece {
+    pub length: usize,
+    pub next: Progress,
+    pub more: bool,
+}
+
+// Nothing printed yet.
+pub fn begin() -> Progress
+    ensures { λ r. ⌜ r ≡ start ⌝ }
+{
+    Progress {
+        at: 0,
+        begun: false,
+    }
+}
+
+// Puts the next piece of the output at the front of lent memory, as far as there is room: 4,476 bytes are always enough.
+pub fn next_piece(input: &[u8], from: Progress, out: &mut [u8]) -> Piece
+    ensures { λ r. ⌜ r ≡ piece (step (now (input .entry)) from) ⌝ }
+    ensures { λ r. ⌜ r .length ≤ 4476 ⌝ }
+    ensures { λ _. ⌜ now (out .exit) ≡ sets (now (out .entry)) 0 (step (now (input .entry)) from .bytes) ⌝ }
+{
+    if from.begun {
+        return next_row(input, from.at, out);
+    }
+    open(input, out)
+}
+
+// The refusal of the input with number 9 or 1, or nothing for its name line.
+fn open(input: &[u8], out: &mut [u8]) -> Piece
+    ensures { λ r. ⌜ r ≡ piece (opening (now (input .entry))) ⌝ }
+    ensures { λ r. ⌜ r .length ≤ 4476 ⌝ }
+    ensures { λ _. ⌜ now (out .exit) ≡ sets (now (out .entry)) 0 (opening (now (input .entry)) .bytes) ⌝ }
+{
+    let verdict = check_input(input);
+    if let Verdict::Broken(refusal) = verdict {
+        let length = put_refusal(out, refusal);
+        return Piece {
+            length,
+            next: rows_from(input.len()),
+            more: true,
+        };
+    }
+    Piece {
+        length: 0,
+        next: rows_from(line_end(next_line(input, Cursor { at: 0 }))),
+        more: true,
+    }
+}
+
+// Numbers 9 and 1, in this order.
+fn check_input(input: &[u8]) -> Verdict
+    ensures { λ r. ⌜ r ≡ firstBroken Broken Kept (inputConditions (now (input .entry))) ⌝ }
+{
+    if LIMIT < input.len() {
+        return Verdict::Broken(Refusal::InputTooLong);
+    }
+    let line = next_line(input, Cursor { at: 0 });
+    let Line::Found {
+        start,
+        end,
+        next: _,
+    } = line
+    else {
+        return Verdict::Broken(Refusal::Names);
+    };
+    if names_match(part(input, start, end)) {
+        return Verdict::Kept;
+    }
+    Verdict::Broken(Refusal::Names)
+}
+
+// The plan or the refusal of the row at a position, where there is one.
+fn next_row(input: &[u8], at: usize, out: &mut [u8]) -> Piece
+    ensures { λ r. ⌜ r ≡ piece (rowAt (now (input .entry)) at (lineAt (now (input .entry)) at)) ⌝ }
+    ensures { λ r. ⌜ r .length ≤ 4476 ⌝ }
+    ensures { λ _. ⌜ now (out .exit) ≡ sets (now (out .entry)) 0 (rowAt (now (input .entry)) at (lineAt (now (input .entry)) at) .bytes) ⌝ }
+{
+    let line = next_line(input, Cursor { at });
+    let Line::Found { start, end, next } = line else {
+        return Piece {
+            length: 0,
+            next: rows_from(at),
+            more: false,
+        };
+    };
+    let length = put_row(part(input, start, end), out);
+    Piece {
+        length,
+        next: rows_from(next.at),
+        more: true,
+    }
+}
+
+// What is printed for a row.
+fn put_row(row: &[u8], out: &mut [u8]) -> usize
+    ensures { λ r. ⌜ r ≡ length (printed (rowOutcome (now (row .entry)))) ⌝ }
+    ensures { λ r. ⌜ r ≤ 4476 ⌝ }
+    ensures { λ _. ⌜ now (out .exit) ≡ sets (now (out .entry)) 0 (printed (rowOutcome (now (row .entry)))) ⌝ }
+{
+    let plan = plan_row(row);
+    let verdict = plan.verdict;
+    if let Verdict::Broken(refusal) = verdict {
+        return put_refusal(out, refusal);
+    }
+    let lines = plan.lines;
+    put_plan(out, lines, plan.count)
+}
+
+// The position behind a line.
+fn line_end(line: Line) -> usize
+    ensures { λ r. ⌜ r ≡ behind line ⌝ }
+{
+    match line {
+        Line::Found {
+            start: _,
+            end: _,
+            next,
+        } => next.at,
+        Line::Nothing => 0,
+    }
+}
+
+// The next row starts there.
+fn rows_from(at: usize) -> Progress
+    ensures { λ r. ⌜ r ≡ rowsFrom at ⌝ }
+{
+    Progress { at, begun: true }
+}

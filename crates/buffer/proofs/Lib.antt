@@ -1,0 +1,2 @@
+-- Laws about bytes put one behind another. Assumes nothing.
+pub mod Putting

@@ -1,0 +1,1 @@
+-- The contracts of this crate cite the library's `set` and `sets` alone. Assumes nothing.

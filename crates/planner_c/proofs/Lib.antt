@@ -1,0 +1,7 @@
+-- Laws about the definitions of specs/. Assumes nothing.
+-- outcomes with a lent buffer
+pub mod Rooms
+-- what a call leaves, by the plan that it was answered
+pub mod Calls
+-- the laws of specs/Laws
+pub mod LawsHold

@@ -1,0 +1,18 @@
+-- `planner_c::refused` meets its contract. Assumes nothing.
+use borrow.Author.Needs.{needs}
+use Rattle.planner_c.specs.Entries.{told}
+use Rattle.planner_c.proofs.refused.Statement.{statement}
+use Rattle.planner_c.proofs.refused.Tie as tie
+
+number-requires : tie.Need-number-requires
+number-requires c κs = search needs
+
+place-requires : tie.Need-place-requires
+place-requires c κs = search needs
+
+returns : tie.Need-returns
+unfolding told
+returns c = rw (c .before .number .ensures, c .place .ensures)
+
+pub refused-spec : {M : Type 1} → statement M
+refused-spec = tie.close (tie.spec number-requires place-requires returns)

@@ -1,0 +1,7 @@
+-- What a reader must believe of the entries for C, in reading order. Assumes nothing.
+-- from bytes to bytes: the answer and the lent buffer, numbers 1 to 8
+pub mod Entries
+-- demand 3 of the text in the buffer
+pub mod Promise
+-- what holds of these, for those who call the entries
+pub mod Laws

@@ -1,0 +1,84 @@
+// The entries for C: a row of settings, from bytes to its answer and its text (document 01, 'Rows of settings'). include/planner.h
+// declares them.
+//
+// No entry has a `requires`: each answers every argument, as equations with the definitions of specs/ say. What C must see to (pointers
+// that are valid for their lengths, a lent buffer apart from the inputs) is in the header.
+ghost use mathlib.Core.Path.{_≡_};
+ghost use Prim.Native.Nat.{_≤_};
+ghost use Rattle.balanced.specs.Outcome.{Refused};
+ghost use Rattle.planner_c.specs.Entries.{told, planRow, checkRow, left};
+ghost use Rattle.planner_c.specs.Promise.{Promised};
+use answers::plan_named_row;
+use refusals::Refusal;
+use refusals::Verdict;
+use report::put_plan;
+
+// What a call answers: 0, 0 and the text's length where the row is planned; else number and place of the refusal, and 0.
+#[repr(C)]
+pub struct Answer {
+    pub number: u32,
+    pub place: u32,
+    pub length: u64,
+}
+
+// Plans a row under a line of names, both without their LF, and writes nothing.
+#[no_mangle]
+pub extern "C" fn planner_check_row(names: &[u8], row: &[u8]) -> Answer
+    ensures { λ r. ⌜ r ≡ checkRow (now (names .entry)) (now (row .entry)) ⌝ }
+    ensures { λ r. ⌜ r .length ≤ 4476 ⌝ }
+{
+    let plan = plan_named_row(names, row);
+    let verdict = plan.verdict;
+    if let Verdict::Broken(refusal) = verdict {
+        return refused(refusal);
+    }
+    let mut space = [0u8; 4476];
+    let lines = plan.lines;
+    let n = put_plan(&mut space, lines, plan.count);
+    planned(n)
+}
+
+// Plans a row under a line of names, both without their LF, and puts its text at the front of the lent buffer. A refused row, also one
+// whose text is longer than the buffer, leaves every byte as it was.
+#[no_mangle]
+pub extern "C" fn planner_plan_row(names: &[u8], row: &[u8], out: &mut [u8]) -> Answer
+    ensures { λ r. ⌜ left r (now (out .exit)) ≡ planRow (now (names .entry)) (now (row .entry)) (now (out .entry)) ⌝ }
+    ensures { λ r. ⌜ Promised (now (row .entry)) r (now (out .exit)) ⌝ }
+{
+    let plan = plan_named_row(names, row);
+    let verdict = plan.verdict;
+    if let Verdict::Broken(refusal) = verdict {
+        return refused(refusal);
+    }
+    // The text is made here first: its length is known before a byte is written.
+    let mut space = [0u8; 4476];
+    let lines = plan.lines;
+    let n = put_plan(&mut space, lines, plan.count);
+    if out.len() < n {
+        return refused(Refusal::LentTooShort);
+    }
+    bytes::copy(&space[..n], out);
+    planned(n)
+}
+
+// The answer to a planned row whose text has this length.
+fn planned(length: usize) -> Answer
+    ensures { λ r. ⌜ r ≡ record { number = 0; place = 0; length = length } ⌝ }
+{
+    Answer {
+        number: 0,
+        place: 0,
+        length: length as u64,
+    }
+}
+
+// The answer to a refused row.
+fn refused(refusal: Refusal) -> Answer
+    ensures { λ r. ⌜ r ≡ told (Refused refusal) ⌝ }
+{
+    Answer {
+        number: refusal.number(),
+        place: refusal.place(),
+        length: 0,
+    }
+}

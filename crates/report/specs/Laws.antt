@@ -1,0 +1,9 @@
+-- What holds of printed plans, for the layers above. Assumes nothing: these are statements; proofs/ proves them.
+use mathlib.Core.Path.{_≡_}
+use mathlib.Core.List.{List}
+use Rattle.balanced.specs.declared.Line.{Line}
+use Rattle.report.specs.Text.{text}
+
+-- no two plans have the same text: whoever has the text has the lines
+abbrev pub OneTextForLines : Type 0
+OneTextForLines = (p q : List Line) → text p ≡ text q → p ≡ q

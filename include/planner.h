@@ -1,0 +1,86 @@
+/*
+ * planner.h: reservations, queue sizes and delays of a cluster tree of battery radios, for programs in C.
+ *
+ * A row of settings goes in as bytes; the plan comes out as text in a buffer that the caller lends. There is no state, no memory is
+ * allocated, nothing is read or written but what is handed over, and every call returns. What each call answers and leaves is proved
+ * (docs/TRUST.md); what the caller has to see to is listed below.
+ *
+ *     uint8_t text[PLANNER_LONGEST_TEXT];
+ *     planner_answer a = planner_plan_row(names, names_length, row, row_length, text, sizeof text);
+ *     if (a.number == 0)
+ *         fwrite(text, 1, a.length, stdout);
+ *     else
+ *         printf("R %u %u\n", (unsigned)a.number, (unsigned)a.place);
+ *
+ * Names and rows
+ *
+ *     names   the line of names, without its line end:
+ *             BO SO H NR NE OWN SINK BURST RATE HEAD DATA ACK
+ *     row     twelve values in that order, without a line end: 1 to 4 digits each, no leading zero, one space between,
+ *             as 8 4 1 2 1 0 0 1 1 19 7 0
+ *
+ *     Neither needs a 0 byte at its end, and a line end or a 0 byte inside is a byte like any other (no name, no digit).
+ *
+ * Answers
+ *
+ *     number 0    planned: length is the length of the plan's text, place is 0
+ *     number > 0  refused with this number at this place; length is 0:
+ *                 1  names differ or are missing                 place 0
+ *                 2  a value is unreadable or missing, or text   its column, from 1; 13 for text after the last
+ *                    stands after the last
+ *                 3  a value is outside its range                its column
+ *                 4  values at odds with each other              2, 4, 5, 7 or 11: a column
+ *                 5  NE + NR > 7 reservations                    0
+ *                 6  more routers than superframes fit           0
+ *                 7  slots used exceed those reservable          the first such depth
+ *                 8  text_length is less than the text's length  0
+ *                 The first that applies, in this order.
+ *
+ * The text has a header line and one line for each kind of link, each ended by a line feed, and no 0 byte at its end.
+ *
+ * What the caller sees to
+ *
+ *     - Each pointer is valid for as many bytes as the length beside it: names and row for reading, text for reading and writing.
+ *     - A pointer beside length 0 is not used. It should not be NULL all the same: lend the address of any byte.
+ *     - text does not overlap names or row, and nobody else changes any of them during the call.
+ *     - No length is above PTRDIFF_MAX (no object of C is).
+ *     - About 12 KB of stack are free.
+ *
+ * Calls may be made from several threads at once, each with its own buffer.
+ */
+#ifndef PLANNER_H
+#define PLANNER_H
+
+#include <stddef.h>
+#include <stdint.h>
+
+#ifdef __cplusplus
+extern "C" {
+#endif
+
+/* No plan's text is longer: a buffer of this length is never refused with 8. */
+#define PLANNER_LONGEST_TEXT 4476
+
+typedef struct planner_answer {
+    uint32_t number; /* 0: planned; else the refusal's number */
+    uint32_t place;  /* the refusal's place: a column, a depth, or 0 */
+    uint64_t length; /* the text's length in bytes; 0 where refused */
+} planner_answer;
+
+/*
+ * Plans a row and writes nothing: number, place and the length of the plan's text. Number 8 is never answered.
+ */
+planner_answer planner_check_row(const uint8_t *names, size_t names_length, const uint8_t *row, size_t row_length);
+
+/*
+ * Plans a row and puts the plan's text at the front of text; the bytes behind it keep their values. Where the row is refused, also with
+ * 8, every byte of text keeps its value. text_length may be 0; the text's own length is enough.
+ */
+planner_answer planner_plan_row(const uint8_t *names, size_t names_length, const uint8_t *row, size_t row_length, uint8_t *text,
+                                size_t text_length);
+
+#ifdef __cplusplus
+}
+#endif
+
+#endif
