@@ -3,3 +3,7 @@
 pub mod Reading
 -- an outcome from the plan that answers it
 pub mod Answering
+-- all that the answer to a row's bytes is computed with
+pub mod Computing
+-- the examples
+pub mod ExamplesHold

@@ -37,6 +37,8 @@ pub mod WindowsFit
 pub mod LawsHold
 -- a router alone
 pub mod LoneSinks
+-- all that a plan is computed with
+pub mod Computing
 -- symbols in a stretch of symbols
 pub mod Stretches
 -- hypotheses that are met, with traffic, a full queue, and slots all used

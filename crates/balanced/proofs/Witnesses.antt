@@ -30,18 +30,19 @@ use Rattle.balanced.specs.Outcome.{outcomeOf}
 use Rattle.balanced.specs.Tree.{isChild, childRouters, endNodes, Within, ancestor, sinkBelow, towards, lineOf, networkOf, Windows, Sensor, Readings}
 use Rattle.balanced.specs.Promise.{sinkLine}
 use Rattle.balanced.specs.Witness.{settings, columns, lengthsAt, row, tree, offsets, network, readings, Witnessed, smallRow, smallTree, smallNetwork, fullReadings, Filled, deepRow, fullSlots, tightRow, OnThePath, allSlots, allSuperframes, JustMet}
+use Rattle.balanced.proofs.Computing.{plans}
 use Rattle.balanced.proofs.LawsHold.{every-plan-keeps}
 use Rattle.balanced.proofs.Stretches.{stretch, stretch-le, apart}
 
 -- ---- what is computed with
 
--- to unfold `plans` is to unfold all that a plan is computed with, and to unfold `runs` all that a run is
-plans : Type 0
-unfolding roundedUp burst arrivals wholeFrames serviceTime beaconInterval slot contention reservable airTime acknowledgement spacing exchange framesIn rate slotsFor latency slotsOf framesOf latencyOf reservationOf afterLink after buffer delay figuresBy figuresOf total join firstBroken table valuesOf ranged atOdds checks timingOf reservableOf sensor left near above upward downward sinkAt atSink reservations routers superframes routersFit slotsNeeded usedBelow usedOffPath usedOnPath hasOffPath hasOnPath offPathAt onPathAt usedAt usedFrom conditions linkFor endLink upLink downLink totalDelay sinkFigures letter endLines upLines downLines lines outcomeOf settings columns sameKind Rattle.balanced.specs.Lines.none figuresAt row smallRow deepRow fullSlots tightRow allSlots allSuperframes
-plans = Unit
+-- to unfold `rows` is to unfold all that a witness's plan is computed with, and to unfold `runs` all that its run is
+rows : Type 0
+unfolding plans settings columns row smallRow deepRow fullSlots tightRow allSlots allSuperframes
+rows = Unit
 
 runs : Type 0
-unfolding plans bit below isChild ancestor sinkBelow towards lineOf networkOf tree offsets network readings reading received written first run symbol serveAll begun serve takeOldest behind idle isStart makeReadings fresh endExchanges Rattle.network.specs.Run.arrivals arrived ends feeds deliver made queue keep lengthsAt sinkLine smallTree smallNetwork fullReadings
+unfolding rows bit below isChild ancestor sinkBelow towards lineOf networkOf tree offsets network readings reading received written first run symbol serveAll begun serve takeOldest behind idle isStart makeReadings fresh endExchanges Rattle.network.specs.Run.arrivals arrived ends feeds deliver made queue keep lengthsAt sinkLine smallTree smallNetwork fullReadings
 runs = Unit
 
 -- ---- the tree
@@ -95,11 +96,11 @@ tree-made t v h = by (eqb 0 t)
 
 -- every node senses
 all-sense : (v : ℕ) → v < 6 → Sensor row tree v
-unfolding plans tree
+unfolding rows tree
 all-sense v h = record { isNode = h; senses = λ r. refl }
 
 tree-readings : Readings row tree readings
-unfolding plans tree readings reading stretch
+unfolding rows tree readings reading stretch
 tree-readings = record {
   sensors = each (all-sense 5 (lit< tt)) (each (all-sense 2 (lit< tt)) (each (all-sense 4 (lit< tt)) (each (all-sense 1 (lit< tt)) none)));
   bucket = λ v x t S. omega (arith, total-mono (λ i. made readings (x + i) v) (λ i. bit (eqb 0 (x + i))) t (λ i h. tree-made (x + i) v (S .isNode)), stretch-le 0 x t);
@@ -107,7 +108,7 @@ tree-readings = record {
 
 -- two frames of a sensor in symbol 0 are too many
 too-many : (v : ℕ) → made (reading 0 v 1 ∷ readings) 0 v ≡ 2 → v < 6 → Readings row tree (reading 0 v 1 ∷ readings) → ⊥
-unfolding plans
+unfolding rows
 too-many v e h R =
     let k : (0 + made (reading 0 v 1 ∷ readings) 0 v) * 3840 ≤ 1 * 3840 + 1 * 1 = R .bucket v 0 1 (all-sense v h) in
     omega (arith, ap (λ (n : ℕ). n * 3840) e)
@@ -178,7 +179,7 @@ small-few x t = by (decLe 960 t) (decLe 480 t)
 
 -- the end node senses, and the root does not
 small-readings : Readings smallRow smallTree fullReadings
-unfolding plans smallTree fullReadings reading stretch
+unfolding rows smallTree fullReadings reading stretch
 small-readings = record {
   sensors = each end-node (each end-node (each end-node none));
   bucket = λ v x t S. two (λ v. Sensor smallRow smallTree v → total (λ i. made fullReadings (x + i) v) t * 960 ≤ 960 + 2 * t) root (λ e. node x t) v (S .isNode) S;
@@ -214,11 +215,11 @@ filled = record {
 -- ---- routers on the sink's path
 
 pub on-the-path : OnThePath
-unfolding plans
+unfolding rows
 on-the-path = record { deep = refl; used = refl; planned = refl; tight = refl; refused = refl }
 
 -- ---- conditions that are just met
 
 pub just-met : JustMet
-unfolding plans
+unfolding rows
 just-met = record { used = refl; planned = refl; counted = refl; plannedToo = refl }

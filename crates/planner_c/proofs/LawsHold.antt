@@ -9,15 +9,16 @@ use Rattle.refusals.specs.declared.Refusal.{Refusal}
 use Rattle.refusals.specs.declared.Refusal.the-variants.{Names, Unreadable, OutOfRange, AtOdds, Reservations, Superframes, SlotsUsed, LentTooShort, InputTooLong}
 use Rattle.refusals.specs.Refusals.{numberOf}
 use Rattle.balanced.specs.declared.Line.{Line}
+use Rattle.balanced.specs.Lines.{lines}
 use Rattle.balanced.specs.Outcome.{Outcome, Planned, Refused}
-use Rattle.answers.specs.Outcomes.{namedOutcome}
+use Rattle.answers.specs.Outcomes.{spelledSettings, namedOutcome}
 use Rattle.report.specs.Text.{text}
 use Rattle.report.proofs.OneText.{one-text-for-lines}
 use Rattle.planner_c.specs.declared.Answer.{Answer}
 use Rattle.planner_c.specs.Entries.{told, filled, entryOutcome, Left, left, planRow, checkRow}
-use Rattle.planner_c.specs.Promise.{Promised}
-use Rattle.planner_c.specs.Laws.{LengthStays, RefusalLeaves, AskedFirst, EntryPromises}
-use Rattle.planner_c.proofs.Rooms.{entry-refused, entry-planned, entry-fits, entry-keeps}
+use Rattle.planner_c.specs.Promise.{IsPlanned, StandsIn, Promised}
+use Rattle.planner_c.specs.Laws.{LengthStays, RefusalLeaves, AskedFirst, LinesStand, EntryPromises}
+use Rattle.planner_c.proofs.Rooms.{entry-refused, entry-planned, entry-fits, entry-lines, entry-keeps}
 
 pub asked-first : AskedFirst
 unfolding planRow checkRow told
@@ -52,6 +53,13 @@ length-stays names row before = by (entryOutcome names row before) refl where
   by : (o : Outcome) → entryOutcome names row before ≡ o → length (filled before o) ≡ length before
   by (Planned p) e = length-append (text p) (drop (length (text p)) before) ∙ rw length-drop (omega (arith, entry-fits names row before p e))
   by (Refused r) e = refl
+
+pub lines-stand : LinesStand
+unfolding planRow told filled
+lines-stand names row before = by (entryOutcome names row before) refl where
+  by : (o : Outcome) → entryOutcome names row before ≡ o → IsPlanned (told o) → StandsIn (lines (spelledSettings row)) (told o) (filled before o)
+  by (Planned p) e n = rw (entry-lines names row before p e) (sym (take-append-seam (text p) _))
+  by (Refused r) e n = numbered r n
 
 pub entry-promises : EntryPromises
 unfolding planRow told filled

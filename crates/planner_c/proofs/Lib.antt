@@ -5,3 +5,5 @@ pub mod Rooms
 pub mod Calls
 -- the laws of specs/Laws
 pub mod LawsHold
+-- the examples
+pub mod ExamplesHold

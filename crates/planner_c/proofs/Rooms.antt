@@ -86,12 +86,15 @@ module _ (names row : List ℕ) where
     unfolding entryOutcome
     entry-unbroken = first-unbroken Refused _ (Planned p) (λ r. refused-planned r p) (named names ++ rowConditions row ++ room before (text (lines (spelledSettings row)))) e
 
+    pub entry-lines : lines (spelledSettings row) ≡ p
+    entry-lines = planned-lines (lines (spelledSettings row)) p (entry-unbroken .1)
+
     -- its text fits the buffer
     pub entry-fits : length (text p) ≤ length before
     unfolding room
     entry-fits =
         let f = unbroken-right (named names ++ rowConditions row) (room before (text (lines (spelledSettings row)))) (entry-unbroken .0) .0 in
-        rw (planned-lines (lines (spelledSettings row)) p (entry-unbroken .1)) at (ltb-false (length before) (length (text (lines (spelledSettings row)))) f)
+        rw entry-lines at (ltb-false (length before) (length (text (lines (spelledSettings row)))) f)
 
     -- and it keeps its promise
     pub entry-keeps : Keeps (spelledSettings row) p

@@ -5,3 +5,5 @@ pub mod Entries
 pub mod Promise
 -- what holds of these, for those who call the entries
 pub mod Laws
+-- calls with buffers at the edges, computed in one table
+pub mod Examples

@@ -5,3 +5,5 @@ pub mod LineText
 pub mod Putting
 -- no two plans have the same text
 pub mod OneText
+-- the examples
+pub mod ExamplesHold

@@ -4,5 +4,7 @@
 pub mod Text
 -- what holds of printed plans, for the layers above
 pub mod Laws
+-- a line, a text and refusals' lines, computed in one table
+pub mod Examples
 -- what the inner functions put
 pub mod Inner

@@ -1,0 +1,26 @@
+-- The examples of specs/Examples, computed. Assumes nothing.
+use mathlib.Core.Path.{refl}
+use Rattle.refusals.specs.Refusals.{numberOf, placeOf, conflictPlace}
+use Rattle.answers.specs.Examples as examples
+use Rattle.answers.specs.Examples.{Examples}
+use Rattle.answers.proofs.Computing.{answered}
+
+pub examples-hold : Examples
+unfolding answered numberOf placeOf conflictPlace examples.answered examples.asked examples.under
+examples-hold = record {
+  one = refl;
+  two = refl;
+  three = refl;
+  four = refl;
+  five = refl;
+  six = refl;
+  seven = refl;
+  planned = refl;
+  oneBeforeTwo = refl;
+  twoBeforeThree = refl;
+  threeBeforeFour = refl;
+  fourBeforeFive = refl;
+  fiveBeforeSix = refl;
+  sixBeforeSeven = refl;
+  sevenAlone = refl;
+}

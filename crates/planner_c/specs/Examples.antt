@@ -1,0 +1,46 @@
+-- Calls of the entries, with buffers at the edges, computed in one table. Assumes nothing.
+use mathlib.Core.Path.{_≡_}
+use mathlib.Core.List.{List, [], _++_}
+use Prim.Native.Nat.{ℕ}
+use lib.ListN.{replicate}
+use Prim.Native.String.{String}
+use Rattle.decimal.specs.Ascii.{ascii}
+use Rattle.planner_c.specs.declared.Answer.{Answer}
+use Rattle.planner_c.specs.Entries.{Left, left, planRow, checkRow}
+
+abbrev pub answer : ℕ → ℕ → ℕ → Answer
+answer number place length = record { number = number; place = place; length = length }
+
+-- bytes that no text has
+unfoldable pub lent : ℕ → List ℕ
+lent n = replicate n 7
+
+-- P3's row, and the text of its plan, which has 106 bytes
+unfoldable pub text : List ℕ
+text = ascii "KIND DEPTH RATE BURST SLOTS FRAMES LATENCY BUFFER DELAY\nE 0 1 960 2 1 1064 3 2024\nS 0 4 8096 0 0 0 9 2024\n"
+
+-- a call of the entry that writes, with that many bytes lent
+unfoldable pub call : String → String → ℕ → Left
+call names row n = planRow (ascii names) (ascii row) (lent n)
+
+-- the same under the right names, of P3's row and of P4's
+unfoldable pub planned : ℕ → Left
+planned n = call "BO SO H NR NE OWN SINK BURST RATE HEAD DATA ACK" "0 0 0 0 4 0 0 1 1 19 7 0" n
+
+unfoldable pub refused : ℕ → Left
+refused n = call "BO SO H NR NE OWN SINK BURST RATE HEAD DATA ACK" "0 0 0 0 5 0 0 1 1 19 7 0" n
+
+pub record Examples : Type 0 where
+  pub check : checkRow (ascii "BO SO H NR NE OWN SINK BURST RATE HEAD DATA ACK") (ascii "0 0 0 0 4 0 0 1 1 19 7 0") ≡ answer 0 0 106
+  -- a buffer exactly as long as the text, and longer ones
+  pub exact : planned 106 ≡ left (answer 0 0 106) text
+  pub oneMore : planned 107 ≡ left (answer 0 0 106) (text ++ lent 1)
+  pub more : planned 300 ≡ left (answer 0 0 106) (text ++ lent 194)
+  -- shorter ones: document 01's example has 10 bytes
+  pub oneLess : planned 105 ≡ left (answer 8 0 0) (lent 105)
+  pub ten : planned 10 ≡ left (answer 8 0 0) (lent 10)
+  pub none : planned 0 ≡ left (answer 8 0 0) []
+  -- 1 to 7 come before 8
+  pub seven : refused 300 ≡ left (answer 7 0 0) (lent 300)
+  pub sevenBeforeEight : refused 0 ≡ left (answer 7 0 0) []
+  pub oneBeforeEight : call "" "0 0 0 0 4 0 0 1 1 19 7 0" 10 ≡ left (answer 1 0 0) (lent 10)

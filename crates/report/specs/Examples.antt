@@ -1,0 +1,37 @@
+-- A printed line, a plan's text and refusals' lines, computed in one table. Assumes nothing.
+use mathlib.Core.Path.{_≡_}
+use mathlib.Core.List.{[], _∷_}
+use Prim.Native.Nat.{ℕ}
+use Rattle.decimal.specs.Ascii.{ascii}
+use Rattle.refusals.specs.declared.Refusal.the-variants.{Names, Unreadable, LentTooShort, InputTooLong}
+use Rattle.balanced.specs.declared.Kind.{Kind}
+use Rattle.balanced.specs.declared.Kind.the-variants.{EndNode, Upward, Downward, Sink}
+use Rattle.balanced.specs.declared.Line.{Line}
+use Rattle.balanced.specs.Lines.{line}
+use Rattle.measure.specs.Measures.{symbols, slots, frames, frameSymbols, perInterval}
+use Rattle.report.specs.Text.{lineText, text, refusalText}
+
+-- a line whose columns all differ
+unfoldable pub counted : Kind → Line
+counted k = line k 2 (record {
+  rate = perInterval 3;
+  burst = frameSymbols 40;
+  slots = slots 5;
+  frames = frames 60;
+  latency = symbols 700;
+  buffer = frames 8;
+  delay = symbols 9000;
+})
+
+pub record Examples : Type 0 where
+  pub endNode : lineText (counted EndNode) ≡ ascii "E 2 3 40 5 60 700 8 9000"
+  pub upward : lineText (counted Upward) ≡ ascii "U 2 3 40 5 60 700 8 9000"
+  pub downward : lineText (counted Downward) ≡ ascii "D 2 3 40 5 60 700 8 9000"
+  pub sink : lineText (counted Sink) ≡ ascii "S 2 3 40 5 60 700 8 9000"
+  pub plan : text (counted Upward ∷ counted Sink ∷ [])
+      ≡ ascii "KIND DEPTH RATE BURST SLOTS FRAMES LATENCY BUFFER DELAY\nU 2 3 40 5 60 700 8 9000\nS 2 3 40 5 60 700 8 9000\n"
+  pub noLines : text [] ≡ ascii "KIND DEPTH RATE BURST SLOTS FRAMES LATENCY BUFFER DELAY\n"
+  pub names : refusalText Names ≡ ascii "R 1 0\n"
+  pub behind : refusalText (Unreadable 13) ≡ ascii "R 2 13\n"
+  pub short : refusalText LentTooShort ≡ ascii "R 8 0\n"
+  pub long : refusalText InputTooLong ≡ ascii "R 9 0\n"
