@@ -42,13 +42,13 @@ static void show_plan(char *text)
         line++;
         if (read_figures(line, &f)) {
             if (f.kind == 'E')
-                printf("  end nodes: queue of %" PRIu64 " frames, %" PRIu64 " slots each\n", f.buffer, f.slots);
+                printf("  end nodes: queue of %" PRIu64 " frames, slots each: %" PRIu64 "\n", f.buffer, f.slots);
             else if (f.kind == 'U')
-                printf("  routers at depth %" PRIu64 ": queue of %" PRIu64 " frames upward, %" PRIu64 " slots\n", f.depth, f.buffer,
+                printf("  routers at depth %" PRIu64 ": queue of %" PRIu64 " frames upward, slots each: %" PRIu64 "\n", f.depth, f.buffer,
                        f.slots);
             else if (f.kind == 'D')
-                printf("  router at depth %" PRIu64 " on the way to the sink: queue of %" PRIu64 " frames downward, %" PRIu64
-                       " slots\n",
+                printf("  router at depth %" PRIu64 " with the sink below it: queue of %" PRIu64
+                       " frames downward, slots: %" PRIu64 "\n",
                        f.depth, f.buffer, f.slots);
             else
                 printf("  longest delay to the sink: %" PRIu64 " symbols, %" PRIu64 " ms\n", f.delay, milliseconds(f.delay));

@@ -41,10 +41,10 @@
  * What the caller sees to
  *
  *     - Each pointer is valid for as many bytes as the length beside it: names and row for reading, text for reading and writing.
- *     - A pointer beside length 0 is not used. It should not be NULL all the same: lend the address of any byte.
+ *     - A pointer beside length 0 is not used and may be NULL: no names (1), a row without values (2, place 1), no room for a text (8).
  *     - text does not overlap names or row, and nobody else changes any of them during the call.
  *     - No length is above PTRDIFF_MAX (no object of C is).
- *     - About 12 KB of stack are free.
+ *     - 64 KB of stack are free (34 KB were measured, for a tree of 12 depths).
  *
  * Calls may be made from several threads at once, each with its own buffer.
  */
