@@ -1,14 +1,12 @@
 -- An outcome from the plan that answers it. Assumes nothing.
-use mathlib.Core.Path.{_≡_, refl, ap, sym}
-use mathlib.Core.List.{List}
-use lib.ListN.{length, take}
+use mathlib.Core.Path.{_≡_, ap, sym}
+use lib.ListN.{take}
 use lib.Seq.{take-append-seam}
 use Rattle.refusals.specs.declared.Refusal.{Refusal}
 use Rattle.refusals.specs.declared.Refusal.the-variants.{Names}
 use Rattle.refusals.specs.declared.Verdict.{Verdict}
 use Rattle.refusals.specs.declared.Verdict.the-variants.{Kept, Broken}
 use Rattle.refusals.proofs.Answering.{broken-kept}
-use Rattle.balanced.specs.declared.Line.{Line}
 use Rattle.balanced.specs.Outcome.{Outcome, Planned, Refused}
 use Rattle.planner.specs.Plans.{held, planned, refused, answer}
 

@@ -10,7 +10,6 @@ use Rattle.refusals.proofs.Answering.{first-append}
 use Rattle.settings.specs.declared.Settings.{Settings}
 use Rattle.settings.specs.Columns.{table}
 use Rattle.settings.specs.Checks.{checks}
-use Rattle.row.specs.declared.Row.{Row}
 use Rattle.row.specs.declared.Row.the-variants as row
 use Rattle.row.specs.Rows as rows
 use Rattle.balanced.specs.Checks as balanced

@@ -32,6 +32,8 @@ pub record Examples : Type 0 where
   pub six : asked "5 4 1 2 1 0 0 1 1 19 7 0" ≡ of 6 0
   pub seven : asked "0 0 0 0 5 0 0 1 1 19 7 0" ≡ of 7 0
   pub planned : under "BO SO H NR NE OWN SINK BURST RATE HEAD DATA ACK" "8 4 1 2 1 0 0 1 1 19 7 0" ≡ of 0 0
+  pub plannedAlone : asked "8 4 1 2 1 0 0 1 1 19 7 0" ≡ of 0 0
+  pub twoUnderNames : under "BO SO H NR NE OWN SINK BURST RATE HEAD DATA ACK" "08 4 1 2 1 0 0 1 1 19 7 0" ≡ of 2 1
   -- each before the next, where a row breaks both
   pub oneBeforeTwo : under "BO" "x" ≡ of 1 0
   pub twoBeforeThree : asked "15 4 1 2 1 0 0 1 1 19 7 x" ≡ of 2 12

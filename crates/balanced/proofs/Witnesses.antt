@@ -6,12 +6,8 @@ use Prim.Native.Nat.{ℕ, zero, suc, _+_, _*_, _≤_, _<_}
 use native.Mathlib.Decide.{decLe}
 use native.Mathlib.Omega.{arith}
 use lib.Dec.{eqb, lit<, lit≤}
-use Rattle.measure.specs.Measures.{roundedUp, burst, arrivals, wholeFrames, serviceTime}
-use Rattle.superframe.specs.Orders.{beaconInterval, slot, contention, reservable}
-use Rattle.superframe.specs.Exchange.{airTime, acknowledgement, spacing, exchange}
-use Rattle.superframe.specs.Reservation.{framesIn, rate, slotsFor, latency}
-use Rattle.links.specs.Link.{slotsOf, framesOf, latencyOf, reservationOf, afterLink, after, buffer, delay, figuresBy, figuresOf}
-use Rattle.network.specs.Counting.{total, bit, below, keep, join, none, each}
+use Rattle.measure.specs.Measures.{arrivals}
+use Rattle.network.specs.Counting.{total, bit, below, keep, none, each}
 use Rattle.network.specs.Model.{queue}
 use Rattle.network.specs.Readings.{made}
 use Rattle.network.specs.Run.{deliver, feeds, ends, arrived, endExchanges, fresh, makeReadings}
@@ -19,14 +15,8 @@ use Rattle.network.specs.Oracle.{isStart, idle, behind, takeOldest, serve, begu
 use Rattle.network.specs.Examples.{reading, first, written, received}
 use Rattle.network.proofs.Sums.{total-ap, total-add, total-mono}
 use Rattle.network.proofs.Oracles.{every-choice-is-a-run}
-use Rattle.refusals.specs.Conditions.{firstBroken}
-use Rattle.settings.specs.Columns.{table}
-use Rattle.settings.specs.Checks.{valuesOf, ranged, atOdds, checks}
-use Rattle.balanced.specs.Times.{timingOf, reservableOf}
-use Rattle.balanced.specs.Loads.{sensor, left, near, above, upward, downward, sinkAt, atSink}
-use Rattle.balanced.specs.Checks.{reservations, routers, superframes, routersFit, slotsNeeded, usedBelow, usedOffPath, usedOnPath, hasOffPath, hasOnPath, offPathAt, onPathAt, usedAt, usedFrom, conditions}
-use Rattle.balanced.specs.Lines.{linkFor, endLink, upLink, downLink, totalDelay, sinkFigures, letter, endLines, upLines, downLines, lines, sameKind, figuresAt}
-use Rattle.balanced.specs.Outcome.{outcomeOf}
+use Rattle.balanced.specs.Checks.{routers}
+use Rattle.balanced.specs.Lines.{lines}
 use Rattle.balanced.specs.Tree.{isChild, childRouters, endNodes, Within, ancestor, sinkBelow, towards, lineOf, networkOf, Windows, Sensor, Readings}
 use Rattle.balanced.specs.Promise.{sinkLine}
 use Rattle.balanced.specs.Witness.{settings, columns, lengthsAt, row, tree, offsets, network, readings, Witnessed, smallRow, smallTree, smallNetwork, fullReadings, Filled, deepRow, fullSlots, tightRow, OnThePath, allSlots, allSuperframes, JustMet}

@@ -2,7 +2,7 @@
 //
 // No public function has a `requires`: each answers every argument, as equations with definitions of specs/ say.
 ghost use mathlib.Core.Path.{_≡_};
-ghost use Prim.Native.Nat.{_<_, _≤_};
+ghost use Prim.Native.Nat.{_<_};
 ghost use lib.ListN.{length};
 ghost use lib.Seq.{sets};
 ghost use Rattle.decimal.specs.Number.{digit, shaped, numberIn};

@@ -53,9 +53,9 @@ cut-nowhere c (b ∷ bs) e = let h = lacks-head c b bs e in rw (h .0, cut-nowher
 -- the values of a line that is made of them: each but the last has a space behind it
 pub values-of-line : ValuesOfLine
 unfolding fields joined
-values-of-line f [] e = cut-nowhere 32 f (all-lack-head 32 f [] e .0)
+values-of-line f [] e = cut-nowhere 32 f (all-lack-head _ f [] e .0)
 values-of-line f (g ∷ gs) e =
-    let h = all-lack-head 32 f (g ∷ gs) e in
+    let h = all-lack-head _ f (g ∷ gs) e in
     cut-behind 32 ([] ∷ []) f (joined (g ∷ gs)) (h .0) ∙ ap (λ (ts : List (List ℕ)). f ∷ ts) (values-of-line g gs (h .1))
 
 -- the lines of a text that is made of them: each has an LF behind it
@@ -63,5 +63,5 @@ pub lines-of-text : LinesOfText
 unfolding lines pieces ended
 lines-of-text [] e = refl
 lines-of-text (l ∷ ls) e =
-    let h = all-lack-head 10 l ls e in
+    let h = all-lack-head _ l ls e in
     cut-behind 10 [] l (ended ls) (h .0) ∙ ap (λ (ts : List (List ℕ)). l ∷ ts) (lines-of-text ls (h .1))

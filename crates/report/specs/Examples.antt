@@ -1,7 +1,6 @@
 -- A printed line, a plan's text and refusals' lines, computed in one table. Assumes nothing.
 use mathlib.Core.Path.{_≡_}
 use mathlib.Core.List.{[], _∷_}
-use Prim.Native.Nat.{ℕ}
 use Rattle.decimal.specs.Ascii.{ascii}
 use Rattle.refusals.specs.declared.Refusal.the-variants.{Names, Unreadable, LentTooShort, InputTooLong}
 use Rattle.balanced.specs.declared.Kind.{Kind}
@@ -28,9 +27,9 @@ pub record Examples : Type 0 where
   pub upward : lineText (counted Upward) ≡ ascii "U 2 3 40 5 60 700 8 9000"
   pub downward : lineText (counted Downward) ≡ ascii "D 2 3 40 5 60 700 8 9000"
   pub sink : lineText (counted Sink) ≡ ascii "S 2 3 40 5 60 700 8 9000"
+  pub noLines : text [] ≡ ascii "KIND DEPTH RATE BURST SLOTS FRAMES LATENCY BUFFER DELAY\n"
   pub plan : text (counted Upward ∷ counted Sink ∷ [])
       ≡ ascii "KIND DEPTH RATE BURST SLOTS FRAMES LATENCY BUFFER DELAY\nU 2 3 40 5 60 700 8 9000\nS 2 3 40 5 60 700 8 9000\n"
-  pub noLines : text [] ≡ ascii "KIND DEPTH RATE BURST SLOTS FRAMES LATENCY BUFFER DELAY\n"
   pub names : refusalText Names ≡ ascii "R 1 0\n"
   pub behind : refusalText (Unreadable 13) ≡ ascii "R 2 13\n"
   pub short : refusalText LentTooShort ≡ ascii "R 8 0\n"

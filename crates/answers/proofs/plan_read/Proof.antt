@@ -1,5 +1,4 @@
 -- `answers::plan_read` meets its contract. Assumes nothing.
-use mathlib.Core.Path.{_∙_}
 use Rattle.planner.specs.Plans.{answer, planOf}
 use Rattle.answers.specs.Inner.{readOutcome}
 use borrow.Author.Needs.{needs}

@@ -40,7 +40,7 @@ same-length c =
     let loop = c .before .before .loop in
     let front = c .before .before .before .before .before in
     let a = front .before .before .before .before .args in
-    put-keeps (below (take (loop .k) (a .t2))) (loop .inv .3) ∙ ap length (front .put-bytes .ensures .1) ∙ length-sets (a .out .now) 0 (header ++ 10 ∷ [])
+    put-keeps (below (take (loop .k) (a .t2))) (loop .inv .3) ∙ ap length (front .put-bytes .ensures .1) ∙ rw length-sets
 
 returns : tie.Need-returns Inv-loop μ-loop
 unfolding header ascii
@@ -91,7 +91,7 @@ same-length-2 c =
     let loop = c .before .loop in
     let front = c .before .before .before .before in
     let a = front .before .before .before .before .args in
-    put-keeps (below (take (loop .k) (a .t2))) (loop .inv .3) ∙ ap length (front .put-bytes .ensures .1) ∙ length-sets (a .out .now) 0 (header ++ 10 ∷ [])
+    put-keeps (below (take (loop .k) (a .t2))) (loop .inv .3) ∙ ap length (front .put-bytes .ensures .1) ∙ rw length-sets
 
 returns-2 : tie.Need-returns-2 Inv-loop μ-loop
 unfolding header ascii

@@ -1,5 +1,4 @@
 -- `report::put_refusal` meets its contract. Assumes nothing.
-use mathlib.Core.Path.{sym}
 use mathlib.Core.List.{_∷_}
 use native.Mathlib.Omega.{arith}
 use borrow.Author.Needs.{needs}
@@ -48,12 +47,12 @@ returns c =
     let a = letter .before .before .before .args in
     let w = first .put-spaced .ensures in
     let v = second .put-spaced2 .ensures in
-    let p = put-one (a .out .now) 0 82 _ (letter .put-byte .ensures) in
+    let p = put-one (a .out .now) 0 _ _ (letter .put-byte .ensures) in
     let q = put-behind (32 ∷ decimal (first .before .number .result)) p (w .0) (w .1 .1) in
     let r = put-behind (32 ∷ decimal (second .before .place .result)) q (v .0) (v .1 .1) in
-    let s = byte-behind 10 r (lf .put-byte2 .ensures) in
-    let t = rw (first .before .number .ensures, second .before .place .ensures, sym (refusal-spaced (a .refusal))) at s in
-    (front-ends t, (omega (arith, w .1 .0, v .1 .0), t .leaves))
+    let s = byte-behind _ r (lf .put-byte2 .ensures) in
+    let t = rw (first .before .number .ensures, second .before .place .ensures) at s in
+    rw (refusal-spaced (a .refusal)) (front-ends t, (omega (arith, w .1 .0, v .1 .0), t .leaves))
 
 pub put-refusal-spec : {M : Type 1} → statement M
 put-refusal-spec =

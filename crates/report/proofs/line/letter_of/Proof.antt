@@ -1,4 +1,5 @@
 -- `report::line::letter_of` meets its contract. Assumes nothing.
+use mathlib.Core.Path.{refl}
 use borrow.Author.Needs.{needs}
 use Rattle.balanced.specs.Lines.{letter}
 use Rattle.report.proofs.line.letter_of.Statement.{statement}
@@ -18,19 +19,19 @@ enum-told-4 c = search needs
 
 returns : tie.Need-returns
 unfolding letter
-returns c = search needs
+returns c = rw (c .enum-told .given .1) refl
 
 returns-2 : tie.Need-returns-2
 unfolding letter
-returns-2 c = search needs
+returns-2 c = rw (c .enum-told2 .given .1) refl
 
 returns-3 : tie.Need-returns-3
 unfolding letter
-returns-3 c = search needs
+returns-3 c = rw (c .enum-told3 .given .1) refl
 
 returns-4 : tie.Need-returns-4
 unfolding letter
-returns-4 c = search needs
+returns-4 c = rw (c .enum-told4 .given .1) refl
 
 pub letter-of-spec : {M : Type 1} → statement M
 letter-of-spec =

@@ -1,5 +1,4 @@
 -- `report::line::put_line` meets its contract. Assumes nothing.
-use mathlib.Core.Path.{sym}
 use native.Mathlib.Omega.{arith}
 use borrow.Author.Needs.{needs}
 use Rattle.report.specs.Inner.{spaced}
@@ -41,9 +40,9 @@ returns c =
     let w = behind .put-numbers .ensures in
     let p = put-one (a .out .now) (a .at) (first .before .letter-of .result) _ (first .put-byte .ensures) in
     let q = put-behind (spaced (behind .before .numbers-of .result)) p (w .0) (w .1 .1) in
-    let r = byte-behind 10 q (lf .put-byte2 .ensures) in
-    let t = rw (first .before .letter-of .ensures, behind .before .numbers-of .ensures, sym (line-ended (a .line))) at r in
-    (t .ends, (omega (arith, w .1 .0), t .leaves))
+    let r = byte-behind _ q (lf .put-byte2 .ensures) in
+    let t = rw (first .before .letter-of .ensures, behind .before .numbers-of .ensures) at r in
+    rw (line-ended (a .line)) (t .ends, (omega (arith, w .1 .0), t .leaves))
 
 pub put-line-spec : {M : Type 1} → statement M
 put-line-spec =

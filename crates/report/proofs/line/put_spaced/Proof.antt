@@ -36,7 +36,7 @@ returns c =
     let a = start .args in
     let h = at-most-twenty (a .n) (start .fits .n .fits) in
     let w = c .before .before .put-number .ensures in
-    let space = put-one (a .out .now) (a .at) 32 _ (c .before .before .before .before .before .before .put-byte .ensures) in
+    let space = put-one (a .out .now) (a .at) _ _ (c .before .before .before .before .before .before .put-byte .ensures) in
     let p = put-behind (decimal (a .n)) space (ap (λ (k : ℕ). a .at + 1 + k) (w .0)) (w .1) in
     (p .ends, (omega (arith, h .1, w .0), p .leaves))
 
