@@ -13,10 +13,10 @@ outputs : Type 0
 unfolding answered digitsBy decimal lines ended numberOf placeOf header numbers lineText text refusalText printed rowsPrinted tooLong inputConditions output
 outputs = Unit
 
-pub examples-hold : ExamplesHold
-unfolding outputs examples ours ExamplesHold
-examples-hold = refl
-
 pub inputs-hold : InputsHold
 unfolding outputs
 inputs-hold = record { namesAlone = refl; namesWithoutEnd = refl; empty = refl; noNames = refl; several = refl }
+
+pub examples-hold : ExamplesHold
+unfolding outputs examples ours ExamplesHold
+examples-hold = refl

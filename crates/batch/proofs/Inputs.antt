@@ -1,10 +1,9 @@
 -- Numbers 9 and 1 of an input, and the text of a row, as code finds them. Assumes nothing.
-use mathlib.Core.Path.{_≡_, refl, ap, sym, _∙_}
+use mathlib.Core.Path.{_≡_, ap, ap₂, sym, _∙_}
 use mathlib.Core.Bool.{Bool, true, false}
-use mathlib.Core.List.{List, [], _∷_, _++_}
+use mathlib.Core.List.{List, [], _∷_}
 use Prim.Native.Nat.{ℕ, _≤_, _<_}
-use lib.ListN.{length, getD, take, drop}
-use lib.Dec.{ltb}
+use lib.ListN.{length, getD, take}
 use borrow.Author.Tests.{lt-ltb, le-ltb}
 use Rattle.lines.specs.declared.Cursor.{Cursor}
 use Rattle.lines.specs.declared.Line.the-variants.{Found, Nothing}
@@ -14,30 +13,36 @@ use Rattle.lines.proofs.LawsHold.{found-advances, nothing-is-left}
 use Rattle.refusals.specs.declared.Refusal.{Refusal}
 use Rattle.refusals.specs.declared.Refusal.the-variants.{Names, InputTooLong}
 use Rattle.refusals.specs.declared.Verdict.the-variants.{Kept, Broken}
-use Rattle.refusals.specs.Conditions.{firstBroken}
+use Rattle.refusals.specs.Conditions.{condition, firstBroken}
 use Rattle.refusals.proofs.Answering.{verdict, answer-broken, answer-kept}
 use Rattle.settings.specs.Columns.{table}
 use Rattle.row.specs.Names.{isNameLine, same, nameLine}
 use Rattle.row.specs.Rows.{named}
-use Rattle.balanced.specs.Outcome.{Outcome, Planned, Refused}
+use Rattle.balanced.specs.Outcome.{Outcome}
 use Rattle.planner.specs.declared.Plan.{Plan}
 use Rattle.planner.specs.Plans.{answer}
 use Rattle.answers.proofs.Answering.{answer-refused, answer-planned}
 use Rattle.report.specs.Text.{text, refusalText}
 use Rattle.batch.specs.Output.{printed, tooLong, inputConditions}
-use Rattle.batch.specs.Steps.{rowsFrom, behind, opening}
+use Rattle.batch.specs.Steps.{rowsFrom, Step, behind, opening}
+
+-- a first step that prints these bytes, with the rows from there on
+abbrev opened : List ℕ → ℕ → Step
+opened b n = record { bytes = b; next = rowsFrom n; more = true }
 
 module _ (input : List ℕ) where
   -- number 9
   pub too-long : 65536 < length input → Broken InputTooLong ≡ verdict (inputConditions input)
   unfolding firstBroken inputConditions tooLong
-  too-long h = rw (lt-ltb 65536 (length input) h)
+  too-long h = sym (ap (λ (b : Bool). verdict (condition b InputTooLong ∷ named (getD (lines input) 0 []))) (lt-ltb 65536 (length input) h))
 
   module _ (h : length input ≤ 65536) where
     -- number 1, by the first line
     by-names : (line : List ℕ) → getD (lines input) 0 [] ≡ line → verdict (inputConditions input) ≡ verdict (named line)
     unfolding firstBroken inputConditions tooLong
-    by-names line e = rw (le-ltb 65536 (length input) h, e)
+    by-names line e =
+        ap (λ (b : Bool). verdict (condition b InputTooLong ∷ named (getD (lines input) 0 []))) (le-ltb 65536 (length input) h)
+        ∙ ap (λ (l : List ℕ). verdict (named l)) e
 
     -- there is no line
     pub no-names : lineAt input 0 ≡ Nothing → Broken Names ≡ verdict (inputConditions input)
@@ -61,12 +66,14 @@ module _ (input : List ℕ) where
   pub opening-refused : (r : Refusal) → verdict (inputConditions input) ≡ Broken r
       → opening input ≡ record { bytes = refusalText r; next = rowsFrom (length input); more = true }
   unfolding opening
-  opening-refused r v = rw (answer-broken refusalText [] (inputConditions input) r v, answer-broken (λ x. length input) (behind (lineAt input 0)) (inputConditions input) r v)
+  opening-refused r v =
+      ap₂ opened (answer-broken refusalText _ (inputConditions input) r v) (answer-broken (λ x. length input) _ (inputConditions input) r v)
 
   pub opening-named : verdict (inputConditions input) ≡ Kept
       → opening input ≡ record { bytes = []; next = rowsFrom (behind (lineAt input 0)); more = true }
   unfolding opening
-  opening-named v = rw (answer-kept refusalText [] (inputConditions input) v, answer-kept (λ x. length input) (behind (lineAt input 0)) (inputConditions input) v)
+  opening-named v =
+      ap₂ opened (answer-kept _ [] (inputConditions input) v) (answer-kept _ (behind (lineAt input 0)) (inputConditions input) v)
 
 -- the text of a row, by the plan that it was answered
 module _ (o : Outcome) (plan : Plan) (e : plan ≡ answer o) where

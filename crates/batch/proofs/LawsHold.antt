@@ -4,21 +4,38 @@ use mathlib.Core.Bool.{Bool, true, false, cond, false≢true}
 use mathlib.Core.List.{List, [], _++_, append-nil}
 use Prim.Native.Nat.{ℕ, zero, suc, _<_}
 use native.Mathlib.Omega.{arith}
+use borrow.Author.Tests.{lt-ltb, le-ltb}
 use lib.ListN.{length, drop}
 use Rattle.lines.specs.declared.Line.{Line}
 use Rattle.lines.specs.declared.Line.the-variants.{Found, Nothing}
-use Rattle.lines.specs.Text.{lines, lineAt}
+use Rattle.lines.specs.Text.{joined, lines, ended, lineAt}
 use Rattle.lines.proofs.Cutting.{lines-past}
 use Rattle.lines.proofs.LawsHold.{found-advances, nothing-is-left}
 use Rattle.refusals.specs.declared.Verdict.{Verdict}
 use Rattle.refusals.specs.declared.Verdict.the-variants.{Kept, Broken}
 use Rattle.refusals.proofs.Answering.{verdict, answer-broken, answer-kept}
+use Rattle.refusals.specs.Refusals.{numberOf, placeOf}
+use Rattle.refusals.specs.Conditions.{firstBroken}
+use Rattle.decimal.specs.Ascii.{ascii}
+use Rattle.decimal.specs.Decimal.{digitsBy, decimal}
 use Rattle.report.specs.Text.{refusalText}
 use Rattle.batch.specs.declared.Progress.{Progress}
 use Rattle.batch.specs.declared.Piece.{Piece}
-use Rattle.batch.specs.Output.{rowsPrinted, inputConditions, output}
+use Rattle.batch.specs.Output.{rowsPrinted, tooLong, inputConditions, output}
 use Rattle.batch.specs.Steps.{start, rowsFrom, Step, behind, opening, rowAt, step, piece, printedFrom}
-use Rattle.batch.specs.Laws.{toGo, StepsEnd, StepsPrintAll}
+use Rattle.batch.specs.Laws.{LongInputs, OtherInputs, toGo, StepsEnd, StepsPrintAll}
+
+-- ---- the length of an input
+
+pub long-inputs : LongInputs
+unfolding output inputConditions tooLong firstBroken ascii ended joined digitsBy decimal numberOf placeOf refusalText
+long-inputs input h = rw (lt-ltb 65536 (length input) h)
+
+pub other-inputs : OtherInputs
+unfolding output inputConditions tooLong firstBroken
+other-inputs input h = rw (le-ltb 65536 (length input) h)
+
+-- ---- the steps
 
 -- what is still to be printed
 unfoldable remaining : List ℕ → Progress → List ℕ
@@ -36,7 +53,7 @@ unfolding rowAt remaining toGo rowsPrinted
 row-taken input at (Found from end next) e =
     let a = found-advances input at from end next e in
     record {
-      prints = λ m. rw (a .first);
+      prints = λ m. ap rowsPrinted (a .first);
       nearer = λ m. omega (arith, a .forward, a .nextWithin);
       ended = λ m. absurd (false≢true (sym m));
     }
@@ -49,7 +66,7 @@ row-taken input at Nothing e = record {
 -- behind the first line stand the rows
 behind-names : (input : List ℕ) (l : Line) → lineAt input 0 ≡ l → drop 1 (lines input) ≡ lines (drop (behind l) input)
 unfolding behind
-behind-names input (Found from end next) e = rw (found-advances input 0 from end next e .first)
+behind-names input (Found from end next) e = ap (λ (ls : List (List ℕ)). drop 1 ls) (found-advances input 0 from end next e .first)
 behind-names input Nothing e = rw (nothing-is-left input 0 e)
 
 -- the first step, by whether the input is refused

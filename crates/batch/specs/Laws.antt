@@ -1,12 +1,27 @@
--- What holds of the steps, for a program that takes them. Assumes nothing: these are statements; proofs/LawsHold proves them.
-use Prim.Native.Nat.{ℕ, suc, _-_, _<_}
+-- What holds of an input's output and of its steps, for a program that takes them. Assumes nothing: these are statements; proofs/LawsHold proves them.
+use Prim.Native.Nat.{ℕ, suc, _-_, _≤_, _<_}
 use mathlib.Core.Path.{_≡_}
 use mathlib.Core.Bool.{true, cond}
-use mathlib.Core.List.{List}
-use lib.ListN.{length}
+use mathlib.Core.List.{List, []}
+use lib.ListN.{length, getD, drop}
+use Rattle.decimal.specs.Ascii.{ascii}
+use Rattle.lines.specs.Text.{lines}
+use Rattle.refusals.specs.Conditions.{firstBroken}
+use Rattle.row.specs.Rows.{named}
+use Rattle.report.specs.Text.{refusalText}
 use Rattle.batch.specs.declared.Progress.{Progress}
-use Rattle.batch.specs.Output.{output}
+use Rattle.batch.specs.Output.{rowsPrinted, output}
 use Rattle.batch.specs.Steps.{start, step, printedFrom}
+
+-- over 65,536 bytes one line is all, whatever they are
+abbrev pub LongInputs : Type 0
+LongInputs = (input : List ℕ) → 65536 < length input → output input ≡ ascii "R 9 0\n"
+
+-- up to 65,536 bytes their number decides nothing: the names and the rows do
+abbrev pub OtherInputs : Type 0
+OtherInputs =
+    (input : List ℕ) → length input ≤ 65536
+    → output input ≡ firstBroken refusalText (rowsPrinted (drop 1 (lines input))) (named (getD (lines input) 0 []))
 
 -- what is left: the bytes behind a position, and one step before the first row
 unfoldable pub toGo : List ℕ → Progress → ℕ

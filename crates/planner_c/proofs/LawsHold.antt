@@ -1,14 +1,13 @@
 -- The laws of specs/Laws. Assumes nothing.
 use mathlib.Core.Path.{_≡_, refl, ap, sym, _∙_, subst}
-use mathlib.Core.List.{List, _++_}
-use Prim.Native.Nat.{ℕ, _≤_, _-_, _+_}
+use mathlib.Core.List.{List}
+use Prim.Native.Nat.{ℕ, _≤_, _-_}
 use native.Mathlib.Omega.{arith}
 use lib.ListN.{length, drop, length-append, length-drop}
 use lib.Seq.{take-append-seam}
 use Rattle.refusals.specs.declared.Refusal.{Refusal}
 use Rattle.refusals.specs.declared.Refusal.the-variants.{Names, Unreadable, OutOfRange, AtOdds, Reservations, Superframes, SlotsUsed, LentTooShort, InputTooLong}
 use Rattle.refusals.specs.Refusals.{numberOf}
-use Rattle.balanced.specs.declared.Line.{Line}
 use Rattle.balanced.specs.Lines.{lines}
 use Rattle.balanced.specs.Outcome.{Outcome, Planned, Refused}
 use Rattle.answers.specs.Outcomes.{spelledSettings, namedOutcome}
@@ -43,7 +42,7 @@ numbered InputTooLong e = absurd (omega arith)
 pub refusal-leaves : RefusalLeaves
 unfolding planRow told filled
 refusal-leaves names row before h = by (entryOutcome names row before) h where
-  by : (o : Outcome) → ¬ (told o .number ≡ 0) → filled before o ≡ before
+  by : (o : Outcome) → ¬ IsPlanned (told o) → filled before o ≡ before
   by (Planned p) g = absurd (g refl)
   by (Refused r) g = refl
 

@@ -2,8 +2,10 @@
 -- outcomes with a lent buffer
 pub mod Rooms
 -- what a call leaves, by the plan that it was answered
-pub mod Calls
+pub mod Leaving
 -- the laws of specs/Laws
 pub mod LawsHold
+-- a text that breaks the promise
+pub mod Breaks
 -- the examples
 pub mod ExamplesHold

@@ -3,6 +3,8 @@
 pub mod Entries
 -- demand 3 of the text in the buffer
 pub mod Promise
+-- a text that breaks the promise: it is about something
+pub mod Broken
 -- what holds of these, for those who call the entries
 pub mod Laws
 -- calls with buffers at the edges, computed in one table

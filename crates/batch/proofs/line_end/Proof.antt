@@ -1,4 +1,5 @@
 -- `batch::line_end` meets its contract. Assumes nothing.
+use mathlib.Core.Path.{ap, sym}
 use Rattle.batch.specs.Steps.{behind}
 use borrow.Author.Needs.{needs}
 use Rattle.batch.proofs.line_end.Statement.{statement}
@@ -12,11 +13,11 @@ enum-told c = search needs
 
 returns : tie.Need-returns
 unfolding behind
-returns c = rw (c .before .line .given .1)
+returns c = ap behind (sym (c .before .line .given .1))
 
 returns-2 : tie.Need-returns-2
 unfolding behind
-returns-2 c = rw (c .enum-told .given .1)
+returns-2 c = ap behind (sym (c .enum-told .given .1))
 
 pub line-end-spec : {M : Type 1} → statement M
 line-end-spec = tie.close (tie.spec enum-known-line enum-told returns returns-2)

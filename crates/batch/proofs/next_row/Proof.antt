@@ -1,7 +1,9 @@
 -- `batch::next_row` meets its contract. Assumes nothing.
-use mathlib.Core.Path.{sym, _∙_}
+use mathlib.Core.Path.{_≡_, ap, sym, _∙_}
 use native.Mathlib.Omega.{arith}
-use Rattle.batch.specs.Steps.{rowAt, piece}
+use Rattle.lines.specs.declared.Line.{Line}
+use Rattle.lines.specs.Text.{partOf}
+use Rattle.batch.specs.Steps.{rowsFrom, rowAt, piece}
 use borrow.Author.Needs.{needs}
 use Rattle.batch.proofs.next_row.Statement.{statement}
 use Rattle.batch.proofs.next_row.Tie as tie
@@ -21,8 +23,9 @@ rows-from-requires c κs = search needs
 returns : tie.Need-returns
 unfolding rowAt piece
 returns c =
+    let a = c .before .before .before .before .before .before .args in
     let e = sym (c .before .before .before .next-line .ensures) ∙ c .before .enum-told .given .1 in
-    (rw (e, c .rows-from .ensures), (omega arith, rw e))
+    (rw (c .rows-from .ensures) (ap (λ (l : Line). piece (rowAt (a .input .now) (a .at) l)) (sym e)), (omega arith, rw e))
 
 part-requires : tie.Need-part-requires
 part-requires c κs = search needs
@@ -39,9 +42,13 @@ same-length c = search needs
 returns-2 : tie.Need-returns-2
 unfolding rowAt piece
 returns-2 c =
+    let a = c .before .before .before .before .before .before .before .before .before .before .before .before .args in
     let e = sym (c .before .before .before .before .before .before .before .before .before .next-line .ensures) ∙ c .before .before .before .before .before .before .before .line .given .1 in
+    let found = c .before .before .before .before .before .before .before .line .given .0 in
+    let row : c .before .before .before .before .before .part .result .now ≡ partOf (a .input .now) (found .0) (found .1 .0) = c .before .before .before .before .before .part .ensures in
     let put = c .before .before .before .put-row .ensures in
-    (rw (e, c .rows-from2 .ensures, put .0, c .before .before .before .before .before .part .ensures), (put .1 .0, rw e (put .1 .1 ∙ rw (c .before .before .before .before .before .part .ensures))))
+    let next : c .rows-from2 .result ≡ rowsFrom (found .1 .1 .0 .at) = c .rows-from2 .ensures in
+    (rw (e, next, put .0, row), (put .1 .0, rw e (put .1 .1 ∙ rw row)))
 
 pub next-row-spec : {M : Type 1} → statement M
 next-row-spec =

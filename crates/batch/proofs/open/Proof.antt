@@ -1,7 +1,8 @@
 -- `batch::open` meets its contract. Assumes nothing.
-use mathlib.Core.Path.{sym, _∙_}
+use mathlib.Core.Path.{_≡_, sym, _∙_}
 use native.Mathlib.Omega.{arith}
-use Rattle.batch.specs.Steps.{piece}
+use lib.ListN.{length}
+use Rattle.batch.specs.Steps.{rowsFrom, piece}
 use Rattle.batch.proofs.Inputs.{opening-refused, opening-named}
 use borrow.Author.Needs.{needs}
 use Rattle.batch.proofs.open.Statement.{statement}
@@ -28,7 +29,8 @@ returns c =
     let a = c .before .before .before .before .before .before .before .before .before .before .before .args in
     let e = opening-refused (a .input .now) _ (sym (c .before .before .before .before .before .before .before .before .check-input .ensures) ∙ c .before .before .before .before .before .before .verdict .given .1) in
     let put = c .before .before .before .put-refusal .ensures in
-    (rw (e, c .rows-from .ensures, put .0), (put .1 .0, rw e (put .1 .1)))
+    let next : c .rows-from .result ≡ rowsFrom (length (a .input .now)) = c .rows-from .ensures in
+    (rw (e, next, put .0), (put .1 .0, rw e (put .1 .1)))
 
 enum-told : tie.Need-enum-told
 enum-told c = search needs

@@ -4,7 +4,7 @@ use native.Mathlib.Omega.{arith}
 use borrow.Author.Needs.{needs}
 use Rattle.planner_c.specs.declared.Answer.{Answer}
 use Rattle.planner_c.specs.Entries.{told}
-use Rattle.planner_c.proofs.Calls.{check-refused, check-planned}
+use Rattle.planner_c.proofs.Leaving.{check-refused, check-planned}
 use Rattle.planner_c.proofs.planner_check_row.Statement.{statement}
 use Rattle.planner_c.proofs.planner_check_row.Tie as tie
 

@@ -1,10 +1,10 @@
 -- `planner_c::planner_plan_row` meets its contract. Assumes nothing.
-use mathlib.Core.Path.{_≡_, sym, _∙_}
+use mathlib.Core.Path.{_≡_, sym}
 use native.Mathlib.Omega.{arith}
 use lib.ListN.{length, take, replicate}
-use lib.Seq.{length-take-le, take-length}
+use lib.Seq.{length-take-le}
 use borrow.Author.Needs.{needs}
-use Rattle.planner_c.proofs.Calls.{put-front, plan-refused, plan-short, plan-written}
+use Rattle.planner_c.proofs.Leaving.{put-front, plan-refused, plan-short, plan-written}
 use Rattle.planner_c.proofs.LawsHold.{promised-left}
 use Rattle.planner_c.proofs.planner_plan_row.Statement.{statement}
 use Rattle.planner_c.proofs.planner_plan_row.Tie as tie
@@ -42,7 +42,7 @@ returns-2 c =
     let a = c .before .before .before .before .before .before .before .before .before .before .before .before .args in
     let plan = c .before .before .before .before .before .before .before .before .plan-named-row in
     let put = c .before .before .before .put-plan in
-    let e = plan-short (a .names .now) (a .row .now) (plan .result) (plan .ensures) (a .out .now) (c .before .before .before .before .before .before .enum-told .given .1) _ (put .ensures .0) _ (c .before .if1 .taken) (c .refused2 .ensures) in
+    let e = plan-short (a .names .now) (a .row .now) (plan .result) (plan .ensures) (a .out .now) (c .before .before .before .before .before .before .enum-told .given .1) _ (put .ensures .0) _ (omega (arith, c .before .if1 .taken)) (c .refused2 .ensures) in
     (e, promised-left (a .names .now) (a .row .now) (a .out .now) _ _ e)
 
 array-share-prefix-space : tie.Need-array-share-prefix-space
@@ -51,7 +51,7 @@ array-share-prefix-space c = search needs
 slice-aggregate-copy : tie.Need-slice-aggregate-copy
 slice-aggregate-copy c =
     let put = c .before .before .before .put-plan in
-    sym (length-take-le (put .result) (put .last .0) (omega (arith, put .ensures .1 .0, put .kept .0)))
+    sym (length-take-le _ (put .last .0) (omega (arith, put .ensures .1 .0, put .kept .0)))
 
 copy-requires : tie.Need-copy-requires
 copy-requires c κs =
@@ -71,9 +71,8 @@ returns-3 c =
     let plan = c .before .before .before .before .before .before .before .before .before .before .before .before .before .plan-named-row in
     let put = c .before .before .before .before .before .before .before .before .put-plan in
     let copy = c .before .before .before .copy in
-    let size : length (take (put .result) (put .last .0)) ≡ put .result = length-take-le (put .result) (put .last .0) (omega (arith, put .ensures .1 .0, put .kept .0)) in
     let front = put-front (put .last .0) (replicate 4476 0) _ (put .result) (put .ensures .0) (put .ensures .1 .0) (put .ensures .1 .1) in
-    let e = plan-written (a .names .now) (a .row .now) (plan .result) (plan .ensures) (a .out .now) (c .before .before .before .before .before .before .before .before .before .before .before .enum-told .given .1) (put .result) (put .ensures .0) _ _ _ (omega (arith, c .before .before .before .before .before .before .if1 .left)) (c .planned .ensures) front (copy .ensures .1 ∙ rw (take-length (take (put .result) (put .last .0)), size)) in
+    let e = plan-written (a .names .now) (a .row .now) (plan .result) (plan .ensures) (a .out .now) (c .before .before .before .before .before .before .before .before .before .before .before .enum-told .given .1) (put .result) (put .ensures .0) _ _ _ (omega (arith, c .before .before .before .before .before .before .if1 .left)) (c .planned .ensures) front (copy .ensures .1) in
     (e, promised-left (a .names .now) (a .row .now) (a .out .now) _ _ e)
 
 pub planner-plan-row-spec : {M : Type 1} → statement M

@@ -3,20 +3,20 @@ use mathlib.Core.Path.{_≡_, ap, sym, _∙_}
 use mathlib.Core.List.{List, _++_}
 use Prim.Native.Nat.{ℕ, _≤_, _<_}
 use native.Mathlib.Omega.{arith}
-use lib.ListN.{length, take, drop, replicate}
-use lib.Seq.{sets, take-at}
+use lib.ListN.{length, take, drop}
+use lib.Seq.{sets, take-at, take-length}
 use Rattle.buffer.proofs.Putting.{sets-front}
 use Rattle.refusals.specs.declared.Refusal.{Refusal}
 use Rattle.refusals.specs.declared.Refusal.the-variants.{LentTooShort}
 use Rattle.refusals.specs.declared.Verdict.the-variants.{Kept, Broken}
-use Rattle.balanced.specs.Outcome.{Outcome, Planned, Refused}
+use Rattle.balanced.specs.Outcome.{Planned, Refused}
 use Rattle.planner.specs.declared.Plan.{Plan}
 use Rattle.planner.specs.Plans.{answer}
 use Rattle.answers.specs.Outcomes.{namedOutcome}
 use Rattle.answers.proofs.Answering.{answer-refused, answer-planned}
 use Rattle.report.specs.Text.{text}
 use Rattle.planner_c.specs.declared.Answer.{Answer}
-use Rattle.planner_c.specs.Entries.{told, filled, entryOutcome, left, planRow, checkRow}
+use Rattle.planner_c.specs.Entries.{told, filled, left, planRow, checkRow}
 use Rattle.planner_c.proofs.Rooms.{entry-refused, entry-planned, entry-short}
 
 -- what was put at the front of an array that is long enough
@@ -55,8 +55,9 @@ module _ (names row : List ℕ) (plan : Plan) (e : plan ≡ answer (namedOutcome
           rw (o, q)
 
       pub plan-written : (a : Answer) (after front : List ℕ) → n ≤ length before → a ≡ record { number = 0; place = 0; length = n }
-          → front ≡ text (take (plan .count) (plan .lines)) → after ≡ front ++ drop n before → left a after ≡ planRow names row before
+          → front ≡ text (take (plan .count) (plan .lines)) → after ≡ take (length front) front ++ drop (length front) before
+          → left a after ≡ planRow names row before
       unfolding planRow filled told
       plan-written a after front h q f w =
           let o = entry-planned names row (take (plan .count) (plan .lines)) (outcome-planned v) before (omega (arith, l)) in
-          rw (o, q, w, f, l)
+          rw (o, q, w, take-length front, f, l)
