@@ -5,7 +5,7 @@
  *
  * The file has the line of names and then a row of settings on each line. For each row it prints the queue size of every kind of node
  * and the longest delay to the sink in milliseconds, or why the row was refused. The exit status is 0 where every row was planned, 1
- * where one was refused, 2 where the file could not be read.
+ * where one was refused, 2 where the file could not be read or memory was short.
  */
 #include "planner.h"
 
@@ -57,19 +57,25 @@ static void show_plan(char *text)
     }
 }
 
-/* Plans one row; answers whether it was planned. */
+/* Plans one row; answers whether it was planned. The first call says how long the text is, the second writes it. */
 static int plan_row(const char *names, size_t names_length, const char *row, size_t row_length)
 {
-    uint8_t text[PLANNER_LONGEST_TEXT + 1];
-    planner_answer a = planner_plan_row((const uint8_t *)names, names_length, (const uint8_t *)row, row_length, text,
-                                        PLANNER_LONGEST_TEXT);
+    planner_answer a = planner_check_row((const uint8_t *)names, names_length, (const uint8_t *)row, row_length);
+    char *text;
     printf("%.*s\n", (int)row_length, row);
     if (a.number != 0) {
         printf("  refused: number %" PRIu32 ", place %" PRIu32 "\n", a.number, a.place);
         return 0;
     }
+    text = malloc(a.length + 1);
+    if (text == NULL) {
+        fprintf(stderr, "no memory for a plan of %" PRIu64 " bytes\n", a.length);
+        exit(2);
+    }
+    planner_plan_row((const uint8_t *)names, names_length, (const uint8_t *)row, row_length, (uint8_t *)text, a.length);
     text[a.length] = '\0';
-    show_plan((char *)text);
+    show_plan(text);
+    free(text);
     return 1;
 }
 
