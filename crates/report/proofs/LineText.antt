@@ -61,13 +61,6 @@ pub text-below : (p : List Line) → text p ≡ (header ++ 10 ∷ []) ++ below p
 unfolding text ended
 text-below p = sym (append-assoc header (10 ∷ []) (below p))
 
-pub text-snoc : (p : List Line) (l : Line) → text (p ++ l ∷ []) ≡ text p ++ (lineText l ++ 10 ∷ [])
-text-snoc p l =
-    text-below (p ++ l ∷ [])
-    ∙ ap (λ (t : List ℕ). (header ++ 10 ∷ []) ++ t) (below-snoc p l)
-    ∙ sym (append-assoc (header ++ 10 ∷ []) (below p) (lineText l ++ 10 ∷ []))
-    ∙ ap (λ (t : List ℕ). t ++ (lineText l ++ 10 ∷ [])) (sym (text-below p))
-
 -- a refusal: R, and each number behind a space
 pub refusal-spaced : (r : Refusal) → refusalText r ≡ (82 ∷ []) ++ (32 ∷ decimal (numberOf r)) ++ (32 ∷ decimal (placeOf r)) ++ 10 ∷ []
 unfolding refusalText ended joined ascii
