@@ -35,7 +35,7 @@ use Rattle.balanced.proofs.WindowsFit.{windows-fit}
 -- ---- planned exactly
 
 -- a refusal is no plan
-no-plan : (p : List Line) (r : Refusal) → Refused r ≡ Planned p → ⊥
+pub no-plan : (p : List Line) (r : Refusal) → Refused r ≡ Planned p → ⊥
 no-plan p r e = false≢true (ap planned e)
   where
     planned : Outcome → Bool
@@ -43,7 +43,7 @@ no-plan p r e = false≢true (ap planned e)
     planned (Refused x) = false
 
 -- and a plan is known by its lines
-same-lines : (p q : List Line) → Planned p ≡ Planned q → p ≡ q
+pub same-lines : (p q : List Line) → Planned p ≡ Planned q → p ≡ q
 same-lines p q e = ap linesOf e
   where
     linesOf : Outcome → List Line

@@ -79,10 +79,8 @@ module _ (input : List ℕ) where
 module _ (o : Outcome) (plan : Plan) (e : plan ≡ answer o) where
   pub row-refused : (r : Refusal) → plan .verdict ≡ Broken r → refusalText r ≡ printed o
   unfolding printed
-  row-refused r v = let q = answer-refused o r (sym (ap (λ (p : Plan). p .verdict) e) ∙ v) in rw q
+  row-refused r v = let q = answer-refused o plan e r v in rw q
 
   pub row-planned : plan .verdict ≡ Kept → text (take (plan .count) (plan .lines)) ≡ printed o
   unfolding printed
-  row-planned v =
-      let q = answer-planned o (sym (ap (λ (p : Plan). p .verdict) e) ∙ v) in
-      rw q (ap (λ (p : Plan). text (take (p .count) (p .lines))) e)
+  row-planned v = let q = answer-planned o plan e v in rw q

@@ -4,6 +4,7 @@ use batch::begin;
 use batch::next_piece;
 use libc::STDIN_FILENO;
 use libc::STDOUT_FILENO;
+use report::LONGEST;
 
 fn main() {
     // One byte more than an input may have: a longer one shows.
@@ -14,7 +15,7 @@ fn main() {
 
 // Writes the output of an input, piece behind piece. A piece that cannot be written whole is the last.
 fn print(input: &[u8]) {
-    let mut out = [0u8; 4476];
+    let mut out = [0u8; LONGEST];
     let mut progress = begin();
     loop {
         let piece = next_piece(input, progress, &mut out);

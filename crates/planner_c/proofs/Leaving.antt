@@ -9,7 +9,7 @@ use Rattle.buffer.proofs.Putting.{sets-front}
 use Rattle.refusals.specs.declared.Refusal.{Refusal}
 use Rattle.refusals.specs.declared.Refusal.the-variants.{LentTooShort}
 use Rattle.refusals.specs.declared.Verdict.the-variants.{Kept, Broken}
-use Rattle.balanced.specs.Outcome.{Planned, Refused}
+use Rattle.balanced.specs.Outcome.{Refused}
 use Rattle.planner.specs.declared.Plan.{Plan}
 use Rattle.planner.specs.Plans.{answer}
 use Rattle.answers.specs.Outcomes.{namedOutcome}
@@ -24,34 +24,27 @@ pub put-front : (space e t : List ℕ) (n : ℕ) → n ≡ length t → n ≤ le
 put-front space e t n q h w = rw (w, sets-front e t (omega (arith, q))) (take-at t (drop (length t) e) n (sym q))
 
 module _ (names row : List ℕ) (plan : Plan) (e : plan ≡ answer (namedOutcome names row)) where
-  outcome-refused : (r : Refusal) → plan .verdict ≡ Broken r → namedOutcome names row ≡ Refused r
-  outcome-refused r v = answer-refused (namedOutcome names row) r (sym (ap (λ (p : Plan). p .verdict) e) ∙ v)
-
-  outcome-planned : plan .verdict ≡ Kept → namedOutcome names row ≡ Planned (take (plan .count) (plan .lines))
-  outcome-planned v = answer-planned (namedOutcome names row) (sym (ap (λ (p : Plan). p .verdict) e) ∙ v)
-      ∙ ap (λ (p : Plan). Planned (take (p .count) (p .lines))) (sym e)
-
   -- the entry that writes nothing
   pub check-refused : (r : Refusal) (a : Answer) → plan .verdict ≡ Broken r → a ≡ told (Refused r) → a ≡ checkRow names row
   unfolding checkRow
-  check-refused r a v q = q ∙ ap told (sym (outcome-refused r v))
+  check-refused r a v q = q ∙ ap told (sym (answer-refused _ plan e r v))
 
   pub check-planned : (n : ℕ) (a : Answer) → plan .verdict ≡ Kept → n ≡ length (text (take (plan .count) (plan .lines)))
       → a ≡ record { number = 0; place = 0; length = n } → a ≡ checkRow names row
   unfolding checkRow told
-  check-planned n a v l q = let o = outcome-planned v in rw (o, q, l)
+  check-planned n a v l q = let o = answer-planned _ plan e v in rw (o, q, l)
 
   -- the entry that writes
   module _ (before : List ℕ) where
     pub plan-refused : (r : Refusal) (a : Answer) → plan .verdict ≡ Broken r → a ≡ told (Refused r) → left a before ≡ planRow names row before
     unfolding planRow filled
-    plan-refused r a v q = let o = entry-refused names row before r (outcome-refused r v) in rw (o, q)
+    plan-refused r a v q = let o = entry-refused names row before r (answer-refused _ plan e r v) in rw (o, q)
 
     module _ (v : plan .verdict ≡ Kept) (n : ℕ) (l : n ≡ length (text (take (plan .count) (plan .lines)))) where
       pub plan-short : (a : Answer) → length before < n → a ≡ told (Refused LentTooShort) → left a before ≡ planRow names row before
       unfolding planRow filled
       plan-short a h q =
-          let o = entry-short names row (take (plan .count) (plan .lines)) (outcome-planned v) before (omega (arith, l)) in
+          let o = entry-short names row (take (plan .count) (plan .lines)) (answer-planned _ plan e v) before (omega (arith, l)) in
           rw (o, q)
 
       pub plan-written : (a : Answer) (after front : List ℕ) → n ≤ length before → a ≡ record { number = 0; place = 0; length = n }
@@ -59,5 +52,5 @@ module _ (names row : List ℕ) (plan : Plan) (e : plan ≡ answer (namedOutcome
           → left a after ≡ planRow names row before
       unfolding planRow filled told
       plan-written a after front h q f w =
-          let o = entry-planned names row (take (plan .count) (plan .lines)) (outcome-planned v) before (omega (arith, l)) in
+          let o = entry-planned names row (take (plan .count) (plan .lines)) (answer-planned _ plan e v) before (omega (arith, l)) in
           rw (o, q, w, take-length front, f, l)

@@ -1,6 +1,6 @@
 -- Outcomes with a lent buffer: number 8 comes after 1 to 7. Assumes nothing.
-use mathlib.Core.Path.{_≡_, ap, sym, _∙_}
-use mathlib.Core.Bool.{Bool, true, false, cond, false≢true}
+use mathlib.Core.Path.{_≡_, sym, _∙_}
+use mathlib.Core.Bool.{Bool, true, false, cond}
 use mathlib.Core.List.{List, [], _∷_, _++_}
 use Prim.Native.Nat.{ℕ, _≤_, _<_}
 use lib.ListN.{length}
@@ -18,30 +18,16 @@ use Rattle.balanced.specs.Checks.{conditions}
 use Rattle.balanced.specs.Lines.{lines}
 use Rattle.balanced.specs.Outcome.{Outcome, Planned, Refused, outcomeOf}
 use Rattle.balanced.specs.Promise.{Keeps}
-use Rattle.balanced.proofs.LawsHold.{every-plan-keeps}
+use Rattle.balanced.proofs.LawsHold.{no-plan, same-lines, every-plan-keeps}
 use Rattle.answers.specs.Outcomes.{spelledSettings, rowConditions, namedOutcome}
 use Rattle.report.specs.Text.{text}
 use Rattle.planner_c.specs.Entries.{room, entryOutcome}
-
--- a plan is no refusal
-refused-planned : {A : Type 0} (r : Refusal) (p : List Line) → Refused r ≡ Planned p → A
-refused-planned r p e = absurd (false≢true (ap planned e)) where
-  planned : Outcome → Bool
-  planned (Planned q) = true
-  planned (Refused x) = false
-
--- a plan has one list of lines
-planned-lines : (p q : List Line) → Planned p ≡ Planned q → p ≡ q
-planned-lines p q e = ap of e where
-  of : Outcome → List Line
-  of (Planned r) = r
-  of (Refused x) = []
 
 -- a refusal stays, whatever would be answered without it
 refused-stays : (p : List Line) (b : Outcome) (r : Refusal) (cs : List (Condition Refusal)) → firstBroken Refused (Planned p) cs ≡ Refused r
     → firstBroken Refused b cs ≡ Refused r
 unfolding firstBroken
-refused-stays p b r [] e = refused-planned r p (sym e)
+refused-stays p b r [] e = absurd (no-plan p r (sym e))
 refused-stays p b r (c ∷ cs) e = by (c .broken) e (refused-stays p b r cs) where
   by : (t : Bool) → cond t (Refused (c .refusal)) (firstBroken Refused (Planned p) cs) ≡ Refused r
       → (firstBroken Refused (Planned p) cs ≡ Refused r → firstBroken Refused b cs ≡ Refused r)
@@ -65,11 +51,11 @@ module _ (names row : List ℕ) where
     -- no condition of 1 to 7 is broken, and the lines are the row's
     unbroken : Unbroken (named names ++ rowConditions row) × (Planned (lines (spelledSettings row)) ≡ Planned p)
     unfolding namedOutcome
-    unbroken = first-unbroken Refused _ (Planned p) (λ r. refused-planned r p) (named names ++ rowConditions row) e
+    unbroken = first-unbroken Refused _ (Planned p) (no-plan p) (named names ++ rowConditions row) e
 
     room-decides : (before : List ℕ) → entryOutcome names row before ≡ firstBroken Refused (Planned p) (room before (text p))
     room-decides before =
-        before-room before ∙ unbroken-first Refused _ (named names ++ rowConditions row) (unbroken .0) ∙ rw (planned-lines (lines (spelledSettings row)) p (unbroken .1))
+        before-room before ∙ unbroken-first Refused _ (named names ++ rowConditions row) (unbroken .0) ∙ rw (same-lines (lines (spelledSettings row)) p (unbroken .1))
 
     pub entry-planned : (before : List ℕ) → length (text p) ≤ length before → entryOutcome names row before ≡ Planned p
     unfolding firstBroken room
@@ -83,10 +69,10 @@ module _ (names row : List ℕ) where
   module _ (before : List ℕ) (p : List Line) (e : entryOutcome names row before ≡ Planned p) where
     entry-unbroken : Unbroken (named names ++ rowConditions row ++ room before (text (lines (spelledSettings row)))) × (Planned (lines (spelledSettings row)) ≡ Planned p)
     unfolding entryOutcome
-    entry-unbroken = first-unbroken Refused _ (Planned p) (λ r. refused-planned r p) (named names ++ rowConditions row ++ room before (text (lines (spelledSettings row)))) e
+    entry-unbroken = first-unbroken Refused _ (Planned p) (no-plan p) (named names ++ rowConditions row ++ room before (text (lines (spelledSettings row)))) e
 
     pub entry-lines : lines (spelledSettings row) ≡ p
-    entry-lines = planned-lines (lines (spelledSettings row)) p (entry-unbroken .1)
+    entry-lines = same-lines (lines (spelledSettings row)) p (entry-unbroken .1)
 
     -- its text fits the buffer
     pub entry-fits : length (text p) ≤ length before

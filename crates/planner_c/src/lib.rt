@@ -11,6 +11,7 @@ ghost use Rattle.planner_c.specs.Promise.{Promised};
 use answers::plan_named_row;
 use refusals::Refusal;
 use refusals::Verdict;
+use report::LONGEST;
 use report::put_plan;
 
 // What a call answers: 0, 0 and the text's length where the row is planned; else number and place of the refusal, and 0.
@@ -32,7 +33,7 @@ pub extern "C" fn planner_check_row(names: &[u8], row: &[u8]) -> Answer
     if let Verdict::Broken(refusal) = verdict {
         return refused(refusal);
     }
-    let mut space = [0u8; 4476];
+    let mut space = [0u8; LONGEST];
     let lines = plan.lines;
     let n = put_plan(&mut space, lines, plan.count);
     planned(n)
@@ -51,7 +52,7 @@ pub extern "C" fn planner_plan_row(names: &[u8], row: &[u8], out: &mut [u8]) -> 
         return refused(refusal);
     }
     // The text is made here first: its length is known before a byte is written.
-    let mut space = [0u8; 4476];
+    let mut space = [0u8; LONGEST];
     let lines = plan.lines;
     let n = put_plan(&mut space, lines, plan.count);
     if out.len() < n {

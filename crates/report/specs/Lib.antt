@@ -1,6 +1,5 @@
 -- Definitions of printed plans. Assumes nothing.
--- what a reader must believe:
--- the text of a plan and of a refusal
+-- what a reader must believe: the text of a plan and of a refusal
 pub mod Text
 -- what holds of printed plans, for the layers above
 pub mod Laws

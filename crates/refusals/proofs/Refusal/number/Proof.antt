@@ -1,4 +1,5 @@
 -- `refusals::Refusal::number` meets its contract. Assumes nothing.
+use mathlib.Core.Path.{refl}
 use Rattle.refusals.specs.Refusals.{numberOf}
 use borrow.Author.Needs.{needs}
 use Rattle.refusals.proofs.Refusal.number.Statement.{statement}
@@ -33,39 +34,39 @@ enum-told-9 c = search needs
 
 returns : tie.Need-returns
 unfolding numberOf
-returns c = rw (c .enum-told .given .1)
+returns c = rw (c .enum-told .given .1) refl
 
 returns-2 : tie.Need-returns-2
 unfolding numberOf
-returns-2 c = rw (c .enum-told2 .given .1)
+returns-2 c = rw (c .enum-told2 .given .1) refl
 
 returns-3 : tie.Need-returns-3
 unfolding numberOf
-returns-3 c = rw (c .enum-told3 .given .1)
+returns-3 c = rw (c .enum-told3 .given .1) refl
 
 returns-4 : tie.Need-returns-4
 unfolding numberOf
-returns-4 c = rw (c .enum-told4 .given .1)
+returns-4 c = rw (c .enum-told4 .given .1) refl
 
 returns-5 : tie.Need-returns-5
 unfolding numberOf
-returns-5 c = rw (c .enum-told5 .given .1)
+returns-5 c = rw (c .enum-told5 .given .1) refl
 
 returns-6 : tie.Need-returns-6
 unfolding numberOf
-returns-6 c = rw (c .enum-told6 .given .1)
+returns-6 c = rw (c .enum-told6 .given .1) refl
 
 returns-7 : tie.Need-returns-7
 unfolding numberOf
-returns-7 c = rw (c .enum-told7 .given .1)
+returns-7 c = rw (c .enum-told7 .given .1) refl
 
 returns-8 : tie.Need-returns-8
 unfolding numberOf
-returns-8 c = rw (c .enum-told8 .given .1)
+returns-8 c = rw (c .enum-told8 .given .1) refl
 
 returns-9 : tie.Need-returns-9
 unfolding numberOf
-returns-9 c = rw (c .enum-told9 .given .1)
+returns-9 c = rw (c .enum-told9 .given .1) refl
 
 pub number-spec : {M : Type 1} → statement M
 number-spec =

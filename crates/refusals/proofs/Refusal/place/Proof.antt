@@ -1,4 +1,5 @@
 -- `refusals::Refusal::place` meets its contract. Assumes nothing.
+use mathlib.Core.Path.{refl}
 use Rattle.refusals.specs.Refusals.{placeOf}
 use borrow.Author.Needs.{needs}
 use Rattle.refusals.proofs.Refusal.place.Statement.{statement}
@@ -36,15 +37,15 @@ enum-told-5 c = search needs
 
 returns : tie.Need-returns
 unfolding placeOf
-returns c = rw (c .enum-told .given .1)
+returns c = rw (c .enum-told .given .1) refl
 
 returns-2 : tie.Need-returns-2
 unfolding placeOf
-returns-2 c = rw (c .before .self .given .1)
+returns-2 c = rw (c .before .self .given .1) refl
 
 returns-3 : tie.Need-returns-3
 unfolding placeOf
-returns-3 c = rw (c .before .self2 .given .1)
+returns-3 c = rw (c .before .self2 .given .1) refl
 
 returns-4 : tie.Need-returns-4
 unfolding placeOf
@@ -52,23 +53,23 @@ returns-4 c = rw (c .before .before .self3 .given .1) (c .place .ensures)
 
 returns-5 : tie.Need-returns-5
 unfolding placeOf
-returns-5 c = rw (c .enum-told2 .given .1)
+returns-5 c = rw (c .enum-told2 .given .1) refl
 
 returns-6 : tie.Need-returns-6
 unfolding placeOf
-returns-6 c = rw (c .enum-told3 .given .1)
+returns-6 c = rw (c .enum-told3 .given .1) refl
 
 returns-7 : tie.Need-returns-7
 unfolding placeOf
-returns-7 c = rw (c .before .self4 .given .1)
+returns-7 c = rw (c .before .self4 .given .1) refl
 
 returns-8 : tie.Need-returns-8
 unfolding placeOf
-returns-8 c = rw (c .enum-told4 .given .1)
+returns-8 c = rw (c .enum-told4 .given .1) refl
 
 returns-9 : tie.Need-returns-9
 unfolding placeOf
-returns-9 c = rw (c .enum-told5 .given .1)
+returns-9 c = rw (c .enum-told5 .given .1) refl
 
 pub place-spec : {M : Type 1} → statement M
 place-spec =
