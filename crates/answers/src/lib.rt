@@ -1,9 +1,11 @@
-// Rows of settings from bytes to plans (document 01, 'Rows of settings'): the plan, or the first refusal of numbers 1 to 7.
+// Rows of settings from bytes to plans (document 01, 'Rows of settings'): the plan's text, or the first refusal of numbers 1 to 7.
 //
-// No public function has a `requires`: each answers every argument, as an equation with a definition of specs/ says. Nothing is
-// written anywhere.
+// No public function has a `requires`: each answers every argument, as equations with definitions of specs/ say. Each puts the plan's
+// text at the front of lent memory, as far as there is room; a refused row leaves every byte as it was.
 ghost use mathlib.Core.Path.{_≡_};
-ghost use Rattle.planner.specs.Plans.{answer};
+ghost use Prim.Native.Nat.{_≤_};
+ghost use lib.Seq.{sets};
+ghost use Rattle.planner.specs.Plans.{answer, written};
 ghost use Rattle.answers.specs.Outcomes.{rowOutcome, namedOutcome};
 ghost use Rattle.answers.specs.Inner.{readOutcome};
 use planner::Plan;
@@ -14,25 +16,31 @@ use row::read_named_row;
 use row::read_row;
 
 // The plan of a row without its LF: refusals 2 to 7.
-pub fn plan_row(row: &[u8]) -> Plan
+pub fn plan_row(row: &[u8], out: &mut [u8]) -> Plan
     ensures { λ r. ⌜ r ≡ answer (rowOutcome (now (row .entry))) ⌝ }
+    ensures { λ r. ⌜ r .length ≤ 4476 ⌝ }
+    ensures { λ _. ⌜ now (out .exit) ≡ sets (now (out .entry)) 0 (written (rowOutcome (now (row .entry)))) ⌝ }
 {
-    plan_read(read_row(row))
+    plan_read(read_row(row), out)
 }
 
 // The plan of a row under a line of names, both without their LF: refusals 1 to 7.
-pub fn plan_named_row(names: &[u8], row: &[u8]) -> Plan
+pub fn plan_named_row(names: &[u8], row: &[u8], out: &mut [u8]) -> Plan
     ensures { λ r. ⌜ r ≡ answer (namedOutcome (now (names .entry)) (now (row .entry))) ⌝ }
+    ensures { λ r. ⌜ r .length ≤ 4476 ⌝ }
+    ensures { λ _. ⌜ now (out .exit) ≡ sets (now (out .entry)) 0 (written (namedOutcome (now (names .entry)) (now (row .entry)))) ⌝ }
 {
-    plan_read(read_named_row(names, row))
+    plan_read(read_named_row(names, row), out)
 }
 
 // The plan of a row that was read or refused.
-fn plan_read(row: Row) -> Plan
+fn plan_read(row: Row, out: &mut [u8]) -> Plan
     ensures { λ r. ⌜ r ≡ answer (readOutcome row) ⌝ }
+    ensures { λ r. ⌜ r .length ≤ 4476 ⌝ }
+    ensures { λ _. ⌜ now (out .exit) ≡ sets (now (out .entry)) 0 (written (readOutcome row)) ⌝ }
 {
     match row {
-        Row::Read(settings) => plan_of(settings),
+        Row::Read(settings) => plan_of(settings, out),
         Row::Refused(refusal) => refused_plan(refusal),
     }
 }

@@ -1,9 +1,9 @@
 -- Numbers 9 and 1 of an input, and the text of a row, as code finds them. Assumes nothing.
-use mathlib.Core.Path.{_≡_, ap, ap₂, sym, _∙_}
+use mathlib.Core.Path.{_≡_, refl, ap, ap₂, sym, _∙_}
 use mathlib.Core.Bool.{Bool, true, false}
 use mathlib.Core.List.{List, [], _∷_}
 use Prim.Native.Nat.{ℕ, _≤_, _<_}
-use lib.ListN.{length, getD, take}
+use lib.ListN.{length, getD}
 use borrow.Author.Tests.{lt-ltb, le-ltb}
 use Rattle.lines.specs.declared.Cursor.{Cursor}
 use Rattle.lines.specs.declared.Line.the-variants.{Found, Nothing}
@@ -14,15 +14,16 @@ use Rattle.refusals.specs.declared.Refusal.{Refusal}
 use Rattle.refusals.specs.declared.Refusal.the-variants.{Names, InputTooLong}
 use Rattle.refusals.specs.declared.Verdict.the-variants.{Kept, Broken}
 use Rattle.refusals.specs.Conditions.{condition, firstBroken}
-use Rattle.refusals.proofs.Answering.{verdict, answer-broken, answer-kept}
+use Rattle.refusals.proofs.Answering.{verdict, broken-kept, answer-broken, answer-kept}
 use Rattle.settings.specs.Columns.{table}
 use Rattle.row.specs.Names.{isNameLine, same, nameLine}
 use Rattle.row.specs.Rows.{named}
-use Rattle.balanced.specs.Outcome.{Outcome}
+use Rattle.balanced.specs.Outcome.{Outcome, Planned, Refused}
 use Rattle.planner.specs.declared.Plan.{Plan}
-use Rattle.planner.specs.Plans.{answer}
-use Rattle.answers.proofs.Answering.{answer-refused, answer-planned}
-use Rattle.report.specs.Text.{text, refusalText}
+use Rattle.planner.specs.Plans.{planned, refused, answer, written}
+use Rattle.planner.proofs.Answers.{answered-length}
+use Rattle.answers.proofs.Answering.{answer-refused}
+use Rattle.report.specs.Text.{refusalText}
 use Rattle.batch.specs.Output.{printed, tooLong, inputConditions}
 use Rattle.batch.specs.Steps.{rowsFrom, Step, behind, opening}
 
@@ -77,10 +78,26 @@ module _ (input : List ℕ) where
 
 -- the text of a row, by the plan that it was answered
 module _ (o : Outcome) (plan : Plan) (e : plan ≡ answer o) where
+  told : plan .verdict ≡ answer o .verdict
+  told = ap (λ (p : Plan). p .verdict) e
+
+  -- refused: nothing was put, and the refusal is
   pub row-refused : (r : Refusal) → plan .verdict ≡ Broken r → refusalText r ≡ printed o
   unfolding printed
-  row-refused r v = let q = answer-refused o plan e r v in rw q
+  row-refused r v = rw (answer-refused o r (sym told ∙ v)) refl
 
-  pub row-planned : plan .verdict ≡ Kept → text (take (plan .count) (plan .lines)) ≡ printed o
-  unfolding printed
-  row-planned v = let q = answer-planned o plan e v in rw q
+  pub row-none : (r : Refusal) → plan .verdict ≡ Broken r → written o ≡ []
+  unfolding written
+  row-none r v = rw (answer-refused o r (sym told ∙ v)) refl
+
+  -- planned: the text was put
+  kept-printed : (x : Outcome) → answer x .verdict ≡ Kept → written x ≡ printed x
+  unfolding answer planned refused written printed
+  kept-printed (Planned p) v = refl
+  kept-printed (Refused r) v = broken-kept r v
+
+  pub row-planned : plan .verdict ≡ Kept → written o ≡ printed o
+  row-planned v = kept-printed o (sym told ∙ v)
+
+  pub row-length : plan .length ≡ length (written o)
+  row-length = ap (λ (p : Plan). p .length) e ∙ answered-length o

@@ -19,7 +19,6 @@ use lines::next_line;
 use lines::part;
 use refusals::Refusal;
 use refusals::Verdict;
-use report::put_plan;
 use report::put_refusal;
 use row::names_match;
 
@@ -133,13 +132,12 @@ fn put_row(row: &[u8], out: &mut [u8]) -> usize
     ensures { λ r. ⌜ r ≤ 4476 ⌝ }
     ensures { λ _. ⌜ now (out .exit) ≡ sets (now (out .entry)) 0 (printed (rowOutcome (now (row .entry)))) ⌝ }
 {
-    let plan = plan_row(row);
+    let plan = plan_row(row, out);
     let verdict = plan.verdict;
     if let Verdict::Broken(refusal) = verdict {
         return put_refusal(out, refusal);
     }
-    let lines = plan.lines;
-    put_plan(out, lines, plan.count)
+    plan.length
 }
 
 // The position behind a line.

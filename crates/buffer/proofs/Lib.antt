@@ -1,2 +1,2 @@
--- Laws about bytes put one behind another. Assumes nothing.
+-- Laws about bytes put one behind another, and all at once. Assumes nothing.
 pub mod Putting

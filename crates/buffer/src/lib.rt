@@ -6,6 +6,7 @@ ghost use mathlib.Core.Path.{_≡_};
 ghost use Prim.Native.Nat.{_+_};
 ghost use lib.ListN.{length, set};
 ghost use lib.Seq.{sets};
+use bytes::copy;
 
 // Puts a byte k places behind a position, where there is room.
 pub fn put_byte(out: &mut [u8], at: usize, k: usize, b: u8)
@@ -18,14 +19,28 @@ pub fn put_byte(out: &mut [u8], at: usize, k: usize, b: u8)
     }
 }
 
-// Puts bytes at a position, as far as there is room, and answers how many they are.
-pub fn put_bytes(out: &mut [u8], at: usize, bytes: &[u8]) -> usize
-    ensures { λ r. ⌜ r ≡ length (now (bytes .entry)) ⌝ }
-    ensures { λ _. ⌜ now (out .exit) ≡ sets (now (out .entry)) at (now (bytes .entry)) ⌝ }
+// Puts bytes at a position, as far as there is room, and answers how many they are. Where all have room they are copied at once, which is
+// faster than byte by byte.
+pub fn put_bytes(out: &mut [u8], at: usize, text: &[u8]) -> usize
+    ensures { λ r. ⌜ r ≡ length (now (text .entry)) ⌝ }
+    ensures { λ _. ⌜ now (out .exit) ≡ sets (now (out .entry)) at (now (text .entry)) ⌝ }
+{
+    if at <= out.len() {
+        if text.len() <= out.len() - at {
+            return copy(text, &mut out[at..]);
+        }
+    }
+    put_some(out, at, text)
+}
+
+// The same, byte by byte: those with room are put.
+fn put_some(out: &mut [u8], at: usize, text: &[u8]) -> usize
+    ensures { λ r. ⌜ r ≡ length (now (text .entry)) ⌝ }
+    ensures { λ _. ⌜ now (out .exit) ≡ sets (now (out .entry)) at (now (text .entry)) ⌝ }
 {
     let mut k = 0;
-    while k < bytes.len() {
-        put_byte(out, at, k, bytes[k]);
+    while k < text.len() {
+        put_byte(out, at, k, text[k]);
         k += 1;
     }
     k

@@ -5,7 +5,7 @@ pub mod Spelling
 pub mod OneSpelling
 -- a number in decimal: its digits, its length, that no other text is one, and that it is read back
 pub mod Writing
--- a number put in decimal, digit behind digit
+-- a number put in decimal, four digits at a time, and its digits counted
 pub mod Putting
 -- the examples
 pub mod ExamplesHold

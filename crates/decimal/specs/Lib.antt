@@ -9,3 +9,5 @@ pub mod Decimal
 pub mod Laws
 -- small texts and numbers, computed in one table
 pub mod Examples
+-- what the inner functions put: no contract of a public function cites it
+pub mod Inner

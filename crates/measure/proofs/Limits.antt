@@ -6,7 +6,7 @@ use lib.Dec.{leb, ltb}
 use native.Mathlib.Decide.{decLe}
 use borrow.Author.Tests.{lt-ltb, le-ltb, le-leb, lt-leb}
 use native.Mathlib.Omega.{arith}
-use native.Mathlib.Nat.{le-div-iff-mul-le, div-lt-iff-lt-mul}
+use native.Mathlib.Nat.{le-div-iff-mul-le, div-lt-iff-lt-mul, mul-le-mul-right}
 use Rattle.measure.specs.Measures.{upTo64, within, largest}
 
 -- where the number fits, it is the answer
@@ -35,3 +35,7 @@ product-fits a b p =
 
 pub zero-product-fits : (a b : ℕ) → a ≡ 0 → true ≡ ltb (a * b) (2 ^ 64)
 zero-product-fits a b z = sym (lt-ltb (a * b) (2 ^ 64) (omega (arith, ap (λ (n : ℕ). n * b) z)))
+
+-- factors of 16 and of 48 bits: their product fits
+pub small-product-fits : (a b : ℕ) → a < 2 ^ 16 → b < 2 ^ 48 → a * b < 2 ^ 64
+small-product-fits a b h k = omega (arith, mul-le-mul-right b h, k)

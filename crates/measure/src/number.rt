@@ -11,10 +11,16 @@ pub fn sum(a: u64, b: u64) -> u64
     if a <= u64::MAX - b { a + b } else { u64::MAX }
 }
 
-// a * b, or the largest number of 64 bits.
+// a * b, or the largest number of 64 bits. Factors below 2 ^ 16 and 2 ^ 48 are told apart first, since their product always fits and the
+// test for others divides, which is slow.
 pub fn product(a: u64, b: u64) -> u64
     ensures { λ r. ⌜ r ≡ upTo64 (a * b) ⌝ }
 {
+    if a < 65536 {
+        if b < 281474976710656 {
+            return a * b;
+        }
+    }
     if product_fits(a, b) { a * b } else { u64::MAX }
 }
 

@@ -1,14 +1,14 @@
 -- The answer as a whole: numbers 3 to 6, then 7, then the plan; and demand 3 of it. Assumes nothing.
 use mathlib.Core.Path.{_≡_, refl, sym, ap, _∙_, subst}
-use mathlib.Core.Bool.{Bool, true, false, cond}
-use mathlib.Core.List.{List, [], _∷_, _++_}
-use Prim.Native.Nat.{suc}
-use lib.ListN.{length, take}
-use lib.Seq.{take-append-seam}
+use mathlib.Core.List.{List, _++_}
+use Prim.Native.Nat.{ℕ, suc, _≤_}
+use native.Mathlib.Omega.{arith}
+use lib.ListN.{length}
+use lib.Seq.{sets}
 use borrow.Author.Tests.{ltb-false}
 use Rattle.refusals.specs.declared.Refusal.{Refusal}
 use Rattle.refusals.specs.declared.Verdict.the-variants.{Kept, Broken}
-use Rattle.refusals.specs.Conditions.{Condition, firstBroken, Unbroken}
+use Rattle.refusals.specs.Conditions.{Unbroken}
 use Rattle.refusals.proofs.Answering.{verdict, broken-kept, answer-broken, answer-kept, first-part-answers, second-part-answers}
 use Rattle.refusals.proofs.Unbroken.{kept-unbroken, unbroken-left, unbroken-right}
 use Rattle.settings.specs.declared.Settings.{Settings}
@@ -22,10 +22,11 @@ use Rattle.balanced.specs.Outcome.{Outcome, Planned, Refused, outcomeOf}
 use Rattle.balanced.specs.Promise.{Keeps}
 use Rattle.balanced.specs.Bounds.{Sound}
 use Rattle.balanced.proofs.Conditions.{few-routers}
-use Rattle.balanced.proofs.LawsHold.{every-plan-keeps}
+use Rattle.balanced.proofs.LawsHold.{planned-exactly, every-plan-keeps}
 use Rattle.planner.specs.declared.Plan.{Plan}
-use Rattle.planner.specs.Plans.{held, planned, refused, answer, planOf}
-use Rattle.planner.specs.Inner.{checksBeforeSlots, soundPlan}
+use Rattle.report.specs.Text.{text}
+use Rattle.planner.specs.Plans.{planned, refused, answer, written}
+use Rattle.planner.specs.Inner.{checksBeforeSlots, soundOutcome}
 
 -- ---- numbers 3 to 6
 
@@ -59,49 +60,60 @@ module _ (s : Settings) where
 
   -- ---- the plan
 
-  -- the entry's answer to conditions is that to the outcome of them
-  answer-first : (cs : List (Condition Refusal)) → firstBroken refused (planned (lines s)) cs ≡ answer (firstBroken Refused (Planned (lines s)) cs)
-  unfolding firstBroken answer
-  answer-first [] = refl
-  answer-first (c ∷ cs) = by (c .broken) (answer-first cs)
-    where
-      by : (b : Bool) → firstBroken refused (planned (lines s)) cs ≡ answer (firstBroken Refused (Planned (lines s)) cs)
-          → cond b (refused (c .refusal)) (firstBroken refused (planned (lines s)) cs) ≡ answer (cond b (Refused (c .refusal)) (firstBroken Refused (Planned (lines s)) cs))
-      by true e = refl
-      by false e = e
+  pub before-slots-broken : (r : Refusal) → verdict (checksBeforeSlots s) ≡ Broken r → Refused r ≡ outcomeOf s
+  unfolding outcomeOf conditions checksBeforeSlots
+  before-slots-broken r e = first-part-answers Refused (Planned (lines s)) (checksBeforeSlots s) (usedFrom s (suc (s .h)) 0) r e
 
-  pub before-slots-broken : (r : Refusal) → verdict (checksBeforeSlots s) ≡ Broken r → refused r ≡ planOf s
-  unfolding planOf outcomeOf conditions checksBeforeSlots answer
-  before-slots-broken r e = ap answer (first-part-answers Refused (Planned (lines s)) (checksBeforeSlots s) (usedFrom s (suc (s .h)) 0) r e)
-
-  pub before-slots-kept : verdict (checksBeforeSlots s) ≡ Kept → soundPlan s ≡ planOf s
-  unfolding planOf outcomeOf conditions checksBeforeSlots soundPlan
-  before-slots-kept e =
-      answer-first (usedFrom s (suc (s .h)) 0) ∙ ap answer (second-part-answers Refused (Planned (lines s)) (checksBeforeSlots s) (usedFrom s (suc (s .h)) 0) e)
+  pub before-slots-kept : verdict (checksBeforeSlots s) ≡ Kept → soundOutcome s ≡ outcomeOf s
+  unfolding outcomeOf conditions checksBeforeSlots soundOutcome
+  before-slots-kept e = second-part-answers Refused (Planned (lines s)) (checksBeforeSlots s) (usedFrom s (suc (s .h)) 0) e
 
 -- ---- demand 3
 
--- what is held at the front are the lines
-take-held : (p : List Line) → take (length p) (held p) ≡ p
-unfolding held
-take-held p = take-append-seam p _
-
-pub plan-keeps : (s : Settings) (r : Plan) → r ≡ planOf s → r .verdict ≡ Kept → Keeps s (take (r .count) (r .lines))
-unfolding planOf answer planned refused
+pub plan-keeps : (s : Settings) (r : Plan) → r ≡ answer (outcomeOf s) → r .verdict ≡ Kept → Keeps s (lines s)
+unfolding answer planned refused
 plan-keeps s r e k = by (outcomeOf s) refl e
   where
-    by : (o : Outcome) → outcomeOf s ≡ o → r ≡ answer o → Keeps s (take (r .count) (r .lines))
-    by (Planned p) q f =
-        let front : take (r .count) (r .lines) ≡ p = ap (λ (x : Plan). take (x .count) (x .lines)) f ∙ take-held p in
-        subst (Keeps s) (sym front) (every-plan-keeps s p q)
+    by : (o : Outcome) → outcomeOf s ≡ o → r ≡ answer o → Keeps s (lines s)
+    by (Planned p) q f = subst (Keeps s) (sym (planned-exactly s p .0 q .1)) (every-plan-keeps s p q)
     by (Refused x) q f = broken-kept x (sym (ap (λ (y : Plan). y .verdict) f) ∙ k)
 
 -- ---- number 7
 
-pub slots-broken : (s : Settings) (r : Refusal) → verdict (usedFrom s (suc (s .h)) 0) ≡ Broken r → refused r ≡ soundPlan s
-unfolding soundPlan
-slots-broken s r e = sym (answer-broken refused (planned (lines s)) (usedFrom s (suc (s .h)) 0) r e)
+pub slots-broken : (s : Settings) (r : Refusal) → verdict (usedFrom s (suc (s .h)) 0) ≡ Broken r → Refused r ≡ soundOutcome s
+unfolding soundOutcome
+slots-broken s r e = sym (answer-broken Refused (Planned (lines s)) (usedFrom s (suc (s .h)) 0) r e)
 
-pub slots-kept : (s : Settings) → verdict (usedFrom s (suc (s .h)) 0) ≡ Kept → planned (lines s) ≡ soundPlan s
-unfolding soundPlan
-slots-kept s e = sym (answer-kept refused (planned (lines s)) (usedFrom s (suc (s .h)) 0) e)
+pub slots-kept : (s : Settings) → verdict (usedFrom s (suc (s .h)) 0) ≡ Kept → Planned (lines s) ≡ soundOutcome s
+unfolding soundOutcome
+slots-kept s e = sym (answer-kept Refused (Planned (lines s)) (usedFrom s (suc (s .h)) 0) e)
+
+-- ---- what is answered and put
+
+-- refused: nothing is put
+pub refused-answer : (o : Outcome) (r : Refusal) → Refused r ≡ o → refused r ≡ answer o
+unfolding answer
+refused-answer o r e = rw (sym e) refl
+
+pub refused-short : (x : Plan) (r : Refusal) → x ≡ refused r → x .length ≤ 4476
+unfolding refused
+refused-short x r e = let z : x .length ≡ 0 = ap (λ (p : Plan). p .length) e in omega arith
+
+pub refused-put : (o : Outcome) (r : Refusal) (b : List ℕ) → Refused r ≡ o → b ≡ sets b 0 (written o)
+unfolding written
+refused-put o r b e = rw (sym e) refl
+
+-- planned: the text is
+pub planned-answer : (o : Outcome) (p : List Line) (x : Plan) → Planned p ≡ o → x .verdict ≡ Kept → x .length ≡ length (text p) → x ≡ answer o
+unfolding answer planned
+planned-answer o p x e ev el = rw (sym e, sym ev, sym el) refl
+
+pub planned-put : (o : Outcome) (p : List Line) (b c : List ℕ) → Planned p ≡ o → c ≡ sets b 0 (text p) → c ≡ sets b 0 (written o)
+unfolding written
+planned-put o p b c e ec = ec ∙ rw (sym e) refl
+
+-- the length that is answered is that of what is put
+pub answered-length : (o : Outcome) → answer o .length ≡ length (written o)
+unfolding answer planned refused written
+answered-length (Planned p) = refl
+answered-length (Refused r) = refl

@@ -1,9 +1,9 @@
 -- Laws about the definitions of specs/. Assumes nothing.
--- loads and rates as the functions put them together
+-- loads as the functions put them together
 pub mod Made
 -- the times of checked settings
 pub mod TimesMade
--- tables by depth
+-- tables of links by depth
 pub mod Tables
 -- from one depth to the next
 pub mod Depths
@@ -11,9 +11,9 @@ pub mod Depths
 pub mod Conditions
 -- the slots used at a depth
 pub mod SlotsMade
--- lines, collected one after another
-pub mod SheetLaws
--- a sheet with lines
+-- lines, put one behind another
+pub mod PageLaws
+-- lent memory with the text of lines
 pub mod Whole
 -- the lines of a sound row
 pub mod PlanLines

@@ -1,8 +1,7 @@
 -- Loads and rates as the functions put them together: nothing passes 64 bits, so the sums are the definitions'. Assumes nothing.
 use mathlib.Core.Path.{_≡_, ap, _∙_}
-use Prim.Native.Nat.{ℕ, _+_, _-_, _*_, _<_, _^_}
+use Prim.Native.Nat.{ℕ}
 use native.Mathlib.Omega.{arith}
-use Rattle.measure.specs.declared.Rate.{Rate}
 use Rattle.measure.specs.declared.FrameSymbols.{FrameSymbols}
 use Rattle.measure.specs.Measures.{upTo64, perInterval, frames, burst}
 use Rattle.measure.proofs.Limits.{up-to-fits}
@@ -14,7 +13,6 @@ use Rattle.settings.specs.declared.Settings.{Settings}
 use Rattle.balanced.specs.Times.{timingOf}
 use Rattle.balanced.specs.Loads.{sensor, left, near}
 use Rattle.balanced.specs.Bounds.{Sound, Bounded}
-use Rattle.balanced.proofs.LoadLaws.{sensor-rate, left-rate}
 use Rattle.balanced.proofs.LoadBounds.{sensor-bounded, sensor-left-bounded, near-bounded}
 
 -- a bounded load is answered as it is
@@ -32,14 +30,6 @@ plus-right a b h = record { rate = omega (arith, h .rate); burst = omega (arith,
 pub left-made : (s : Settings) (a l : Load) (v : Reservation) → Bounded (left s a) → v ≡ reservationOf (timingOf s) (a .rate) → l ≡ loadUpTo64 (afterLink a v) → l ≡ left s a
 unfolding left after
 left-made s a l v h ev el = el ∙ rw ev (fits _ h)
-
--- what enters every router: its rate
-pub near-rate-made : (s : Settings) → Sound s → (p q r : Rate) → p .0 ≡ upTo64 (s .rate * s .own) → q .0 ≡ upTo64 (s .rate * s .ne) → r .0 ≡ upTo64 (p .0 + q .0) → r ≡ near s .rate
-unfolding near
-near-rate-made s S p q r ep eq er =
-    let b : near s .rate .0 < 2 ^ 30 = near-bounded s S .rate in
-    let e : near s .rate .0 ≡ s .own * s .rate + s .ne * s .rate = omega (arith, ap (λ (n : ℕ). s .own * n) (sensor-rate s), ap (λ (n : ℕ). s .ne * n) (left-rate s (sensor s) ∙ sensor-rate s)) in
-    ap perInterval (omega arith)
 
 -- a sensor's load
 pub sensor-made : (s : Settings) → Sound s → (β : FrameSymbols) → β .0 ≡ upTo64 (burst (frames (s .burst)) (timingOf s .interval) .0)

@@ -1,13 +1,11 @@
--- The lines of a sound row, as they are collected: how many there are, what their delays come to, and that they are the plan's. Assumes
--- nothing.
+-- The lines of a sound row, as they are put: what their delays come to, and that they are the plan's. Assumes nothing.
 use mathlib.Core.Path.{_≡_, refl, sym, ap, _∙_}
 use mathlib.Core.Bool.{Bool, true, false, cond}
 use mathlib.Core.List.{List, [], _∷_, _++_, append-nil}
-use Prim.Native.Nat.{ℕ, zero, suc, _+_, _-_, _*_, _^_, _≤_, _<_}
+use Prim.Native.Nat.{ℕ, zero, suc, _+_, _*_, _^_, _≤_, _<_}
 use native.Mathlib.Nat.{mul-le-mul-right}
 use native.Mathlib.Omega.{arith}
 use lib.Dec.{ltb}
-use lib.ListN.{length, length-append}
 use lib.Seq.{append-snoc}
 use Rattle.measure.specs.Measures.{symbols}
 use Rattle.measure.proofs.Limits.{up-to-fits}
@@ -24,9 +22,8 @@ use Rattle.balanced.specs.Bounds.{Sound, Bounded}
 use Rattle.balanced.proofs.LoadLaws.{timed, interval-low, exchange-low}
 use Rattle.balanced.proofs.LoadBounds.{sensor-bounded, upward-bounded, downward-bounded}
 use Rattle.balanced.proofs.Recurrences.{sensor-some, upward-some, downward-some}
-use Rattle.planner.specs.declared.sheet.Sheet.{Sheet}
-use Rattle.planner.specs.Sheets.{empty, pushed, filled, downLinesFrom}
-use Rattle.planner.proofs.Whole.{delays, delays-append, sheetOf, filled-append, filled-empty, pushed-held}
+use Rattle.planner.specs.Pages.{Page, pushed, filled, downLinesFrom}
+use Rattle.planner.proofs.Whole.{delays, delays-append, pageOf, filled-append, filled-text, pushed-text}
 
 -- ---- the downward lines
 
@@ -41,33 +38,9 @@ down-lines : (s : Settings) (n : ℕ) → downLinesFrom s n 0 ≡ downLines s n
 unfolding downLines join
 down-lines s n = let e : 0 + n ≡ n = omega arith in down-from s n 0 ∙ ap (downLines s) e
 
--- ---- how many lines there are
-
 -- the lines of the links
 unfoldable pub linkLines : Settings → List Line
 linkLines s = endLines s ++ upLines s (s .h) ++ downLines s (s .sink)
-
-end-count : (s : Settings) → length (endLines s) ≤ 1
-unfolding endLines
-end-count s = by (ltb 0 (s .ne))
-  where
-    by : (b : Bool) → length (cond b (line EndNode 0 (endLink s) ∷ []) []) ≤ 1
-    by true = omega arith
-    by false = omega arith
-
-up-count : (s : Settings) (n : ℕ) → length (upLines s n) ≡ n
-unfolding upLines
-up-count s zero = refl
-up-count s (suc n) = ap suc (up-count s n)
-
-down-count : (s : Settings) (n : ℕ) → length (downLines s n) ≡ n
-unfolding downLines join
-down-count s zero = refl
-down-count s (suc n) = length-append (downLines s n) _ ∙ omega (arith, down-count s n)
-
-link-count : (s : Settings) → length (linkLines s) ≤ 1 + s .h + s .sink
-unfolding linkLines
-link-count s = omega (arith, length-append (endLines s ++ upLines s (s .h)) (downLines s (s .sink)), length-append (endLines s) (upLines s (s .h)), end-count s, up-count s (s .h), down-count s (s .sink))
 
 -- ---- what their delays come to
 
@@ -128,24 +101,21 @@ module _ (s : Settings) (S : Sound s) where
       by true = end-low
       by false = omega arith
 
-  -- ---- the sheet
+  -- ---- the text
 
-  few : length (linkLines s) < 26
-  few = omega (arith, link-count s, S .checked .h, S .checked .sink)
-
-  -- the sheet with the links' lines, as it is filled
-  pub links-collected : (t u v : Sheet) → t ≡ filled empty (endLines s) → u ≡ filled t (upLines s (s .h)) → v ≡ filled u (downLinesFrom s (s .sink) 0) → v ≡ sheetOf (linkLines s)
+  -- lent memory with the links' lines, as it is filled
+  pub links-put : (b : List ℕ) (p q r u : Page) → p ≡ pageOf b [] → q ≡ filled p (endLines s) → r ≡ filled q (upLines s (s .h)) → u ≡ filled r (downLinesFrom s (s .sink) 0) → u ≡ pageOf b (linkLines s)
   unfolding linkLines
-  links-collected t u v et eu ev =
-      ev ∙ rw (eu, et, filled-append empty (endLines s) (upLines s (s .h)), down-lines s (s .sink), filled-append empty (endLines s ++ upLines s (s .h)) (downLines s (s .sink)))
-      (filled-empty (linkLines s) (omega (arith, few)))
+  links-put b p q r u ep eq er eu =
+      eu ∙ rw (er, eq, ep, filled-append (pageOf b []) (endLines s) (upLines s (s .h)), down-lines s (s .sink), filled-append (pageOf b []) (endLines s ++ upLines s (s .h)) (downLines s (s .sink)))
+      (filled-text b [] (linkLines s))
 
   -- its delay is the total
-  pub links-delay : sheetOf (linkLines s) .delay ≡ totalDelay s
-  unfolding sheetOf
-  links-delay = ap symbols (rw (link-delays s) (up-to-fits total-fits))
+  pub links-delay : (b : List ℕ) → pageOf b (linkLines s) .delay ≡ totalDelay s
+  unfolding pageOf
+  links-delay b = ap symbols (rw (link-delays s) (up-to-fits total-fits))
 
   -- with line S it is the plan
-  pub plan-collected : (v w : Sheet) (l : Line) → v ≡ sheetOf (linkLines s) → l ≡ line Sink (s .sink) (sinkFigures s) → w ≡ pushed v l → w ≡ sheetOf (lines s)
+  pub plan-put : (b : List ℕ) (u v : Page) → u ≡ pageOf b (linkLines s) → v ≡ pushed u (line Sink (s .sink) (sinkFigures s)) → v ≡ pageOf b (lines s)
   unfolding lines linkLines
-  plan-collected v w l ev el ew = ew ∙ rw (ev, el) (pushed-held (linkLines s) (line Sink (s .sink) (sinkFigures s)) few)
+  plan-put b u v eu ev = ev ∙ rw eu (pushed-text b (linkLines s) (line Sink (s .sink) (sinkFigures s)))

@@ -1,43 +1,121 @@
--- Tables by depth, filled one depth after another. Assumes nothing.
-use mathlib.Core.Path.{_≡_, _∙_, sym, ap}
+-- Tables of links, filled one depth after another. Assumes nothing.
+use mathlib.Core.Path.{_≡_, refl, _∙_, sym, ap}
+use mathlib.Core.Bool.{Bool, true, false}
 use mathlib.Core.Logic.{_≢_}
-use mathlib.Core.List.{List}
-use Prim.Native.Nat.{ℕ, _+_, _<_}
+use mathlib.Core.List.{List, [], _∷_}
+use Prim.Native.Nat.{ℕ, zero, suc, _+_, _*_, _≤_, _<_}
 use native.Mathlib.Decide.{ℕ-discrete}
 use native.Mathlib.Omega.{arith}
-use lib.ListN.{getD, length, length-set, replicate, length-replicate, getD-replicate, set}
-use lib.Seq.{getD-set-same, getD-set-other}
-use Rattle.planner.specs.Inner.{HeldFrom, HeldBelow}
+use lib.Dec.{ltb}
+use lib.ListN.{getD, length, length-set, set}
+use lib.Seq.{sets, length-sets, getD-set-same, getD-set-other}
+use borrow.Author.Tests.{ltb-true, ltb-false}
+use Rattle.planner.specs.declared.table.Link.{Link}
+use Rattle.planner.specs.Inner.{five, linkIn, linkSet, HeldFrom, HeldBelow}
 
-module _ {A : Type 0} (f : ℕ → A) (z : A) where
-  -- the table that is the same at every depth holds f at one
-  pub alike-from : (x : A) (i h : ℕ) → h < 13 → i ≡ h → x ≡ f h → HeldFrom f z i h (replicate 13 x)
-  alike-from x i h low s e = record {
-    size = length-replicate 13 x;
-    held = λ j from to. let k : h ≡ j = omega arith in getD-replicate 13 j x z (omega arith) ∙ e ∙ ap f k;
-  }
+-- ---- numbers set one behind another
 
-  -- a stored element and the others
-  stored : (l : List A) (i j : ℕ) (x : A) → i < length l → x ≡ f i → (j ≢ i → getD l j z ≡ f j) → getD (set l i x) j z ≡ f j
-  stored l i j x low new others = elim (ℕ-discrete j i) [
-    | yes e ↦ ap (λ (k : ℕ). getD (set l i x) k z) e ∙ getD-set-same l i x z low ∙ new ∙ ap f (sym e)
-    | no n ↦ getD-set-other l i j x z n ∙ others n
+-- what lies before them stays
+sets-before : (vs l : List ℕ) (i j : ℕ) → j < i → getD (sets l i vs) j 0 ≡ getD l j 0
+sets-before [] l i j h = refl
+sets-before (a ∷ vs) l i j h = sets-before vs (set l i a) (suc i) j (omega arith) ∙ getD-set-other l i j a 0 (λ e. omega arith)
+
+-- and what lies behind them
+sets-behind : (vs l : List ℕ) (i j : ℕ) → i + length vs ≤ j → getD (sets l i vs) j 0 ≡ getD l j 0
+sets-behind [] l i j h = refl
+sets-behind (a ∷ vs) l i j h = sets-behind vs (set l i a) (suc i) j (omega arith) ∙ getD-set-other l i j a 0 (λ e. omega arith)
+
+-- each stands at its place
+sets-there : (vs l : List ℕ) (i k : ℕ) → k < length vs → i + length vs ≤ length l → getD (sets l i vs) (i + k) 0 ≡ getD vs k 0
+sets-there [] l i k h room = absurd (omega arith)
+sets-there (a ∷ vs) l i zero h room =
+    let e : i + 0 ≡ i = omega arith in
+    rw e (sets-before vs (set l i a) (suc i) i (omega arith) ∙ getD-set-same l i a 0 (omega arith))
+sets-there (a ∷ vs) l i (suc k) h room =
+    let e : i + suc k ≡ suc i + k = omega arith in
+    rw e (sets-there vs (set l i a) (suc i) k (omega arith) (omega (arith, length-set l i a)))
+
+-- ---- a link's five places
+
+module _ (ns : List ℕ) (i : ℕ) (e : length ns ≡ 65) (low : i < 13) where
+  pub second-place : (a : ℕ) → 5 * i + 1 < length (set ns (5 * i) a)
+  second-place a = omega (arith, length-set ns (5 * i) a)
+
+  pub third-place : (a b : ℕ) → 5 * i + 2 < length (set (set ns (5 * i) a) (5 * i + 1) b)
+  third-place a b = let l : List ℕ = set ns (5 * i) a in omega (arith, length-set l (5 * i + 1) b, length-set ns (5 * i) a)
+
+  pub fourth-place : (a b c : ℕ) → 5 * i + 3 < length (set (set (set ns (5 * i) a) (5 * i + 1) b) (5 * i + 2) c)
+  fourth-place a b c =
+      let l : List ℕ = set ns (5 * i) a in
+      let m : List ℕ = set l (5 * i + 1) b in
+      omega (arith, length-set m (5 * i + 2) c, length-set l (5 * i + 1) b, length-set ns (5 * i) a)
+
+  pub fifth-place : (a b c d : ℕ) → 5 * i + 4 < length (set (set (set (set ns (5 * i) a) (5 * i + 1) b) (5 * i + 2) c) (5 * i + 3) d)
+  fifth-place a b c d =
+      let l : List ℕ = set ns (5 * i) a in
+      let m : List ℕ = set l (5 * i + 1) b in
+      let n : List ℕ = set m (5 * i + 2) c in
+      omega (arith, length-set n (5 * i + 3) d, length-set m (5 * i + 2) c, length-set l (5 * i + 1) b, length-set ns (5 * i) a)
+
+-- ---- one link
+
+pub link-set-length : (ns : List ℕ) (i : ℕ) (v : Link) → length (linkSet ns i v) ≡ length ns
+link-set-length ns i v = length-sets ns (5 * i) (five v)
+
+-- the link that was set
+pub link-set-same : (ns : List ℕ) (i : ℕ) (v : Link) → length ns ≡ 65 → i < 13 → linkIn (linkSet ns i v) i ≡ v
+unfolding linkIn
+link-set-same ns i v e low =
+    let there : (k : ℕ) → k < 5 → getD (linkSet ns i v) (5 * i + k) 0 ≡ getD (five v) k 0 = λ k h. sets-there (five v) ns (5 * i) k h (omega arith) in
+    let first : getD (linkSet ns i v) (5 * i) 0 ≡ v .load .rate .0 = sets-before (v .load .burst .0 ∷ v .reservation .slots .0 ∷ v .reservation .frames .0 ∷ v .reservation .latency .0 ∷ []) (set ns (5 * i) (v .load .rate .0)) (suc (5 * i)) (5 * i) (omega arith) ∙ getD-set-same ns (5 * i) (v .load .rate .0) 0 (omega arith) in
+    rw (first, there 1 (omega arith), there 2 (omega arith), there 3 (omega arith), there 4 (omega arith)) refl
+
+-- and the others
+pub link-set-other : (ns : List ℕ) (i j : ℕ) (v : Link) → j ≢ i → linkIn (linkSet ns i v) j ≡ linkIn ns j
+unfolding linkIn
+link-set-other ns i j v n =
+    rw (other (5 * j) (omega arith) (omega arith), other (5 * j + 1) (omega arith) (omega arith), other (5 * j + 2) (omega arith) (omega arith), other (5 * j + 3) (omega arith) (omega arith), other (5 * j + 4) (omega arith) (omega arith)) refl
+  where
+    by : (m : ℕ) (b : Bool) → ltb j i ≡ b → 5 * j ≤ m → m < 5 * j + 5 → getD (linkSet ns i v) m 0 ≡ getD ns m 0
+    by m true e from to = sets-before (five v) ns (5 * i) m (omega (arith, ltb-true j i e))
+    by m false e from to = elim (ℕ-discrete j i) [
+      | yes k ↦ absurd (n k)
+      | no k ↦ sets-behind (five v) ns (5 * i) m (omega (arith, ltb-false j i e))
+    ]
+
+    other : (m : ℕ) → 5 * j ≤ m → m < 5 * j + 5 → getD (linkSet ns i v) m 0 ≡ getD ns m 0
+    other m = by m (ltb j i) refl
+
+-- ---- the links of many depths
+
+module _ (f : ℕ → Link) where
+  stored : (ns : List ℕ) (i j : ℕ) (v : Link) → length ns ≡ 65 → i < 13 → v ≡ f i → (j ≢ i → linkIn ns j ≡ f j) → linkIn (linkSet ns i v) j ≡ f j
+  stored ns i j v e low new others = elim (ℕ-discrete j i) [
+    | yes k ↦ ap (λ (m : ℕ). linkIn (linkSet ns i v) m) k ∙ link-set-same ns i v e low ∙ new ∙ ap f (sym k)
+    | no n ↦ link-set-other ns i j v n ∙ others n
   ]
 
+  -- the deepest one
+  pub set-last : (ns : List ℕ) (i h : ℕ) (v : Link) → i < 13 → i ≡ h → length ns ≡ 65 → v ≡ f h → HeldFrom f i h (linkSet ns i v)
+  set-last ns i h v low s e new = record {
+    size = link-set-length ns i v ∙ e;
+    held = λ j from to. let k : j ≡ i = omega arith in ap (linkIn (linkSet ns i v)) k ∙ link-set-same ns i v e low ∙ new ∙ ap f (sym (k ∙ s));
+  }
+
   -- one depth more towards the root
-  pub set-from : (l : List A) (i h : ℕ) (x : A) → i < 13 → HeldFrom f z (i + 1) h l → x ≡ f i → HeldFrom f z i h (set l i x)
-  set-from l i h x low t new = record {
-    size = length-set l i x ∙ t .size;
-    held = λ j from to. stored l i j x (omega (arith, t .size)) new (λ n. t .held j (omega arith) to);
+  pub set-from : (ns : List ℕ) (i h : ℕ) (v : Link) → i < 13 → HeldFrom f (i + 1) h ns → v ≡ f i → HeldFrom f i h (linkSet ns i v)
+  set-from ns i h v low t new = record {
+    size = link-set-length ns i v ∙ t .size;
+    held = λ j from to. stored ns i j v (t .size) low new (λ n. t .held j (omega arith) to);
   }
 
   -- one depth more away from it
-  pub set-below : (l : List A) (n : ℕ) (x : A) → n < 13 → HeldBelow f z n l → x ≡ f n → HeldBelow f z (n + 1) (set l n x)
-  set-below l n x low t new = record {
-    size = length-set l n x ∙ t .size;
-    held = λ j below. stored l n j x (omega (arith, t .size)) new (λ o. t .held j (omega arith));
+  pub set-below : (ns : List ℕ) (n : ℕ) (v : Link) → n < 13 → HeldBelow f n ns → v ≡ f n → HeldBelow f (n + 1) (linkSet ns n v)
+  set-below ns n v low t new = record {
+    size = link-set-length ns n v ∙ t .size;
+    held = λ j below. stored ns n j v (t .size) low new (λ o. t .held j (omega arith));
   }
 
   -- nothing is asked of a table below depth 0
-  pub none-below : (l : List A) → length l ≡ 13 → HeldBelow f z 0 l
-  none-below l e = record { size = e; held = λ j low. absurd (omega arith) }
+  pub none-below : (ns : List ℕ) → length ns ≡ 65 → HeldBelow f 0 ns
+  none-below ns e = record { size = e; held = λ j low. absurd (omega arith) }

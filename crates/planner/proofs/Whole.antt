@@ -1,16 +1,16 @@
--- A sheet that lines were put on, one after another, holds them at its front and the sum of their delays. Assumes nothing.
+-- Lent memory that lines were put in, one behind another, holds their text at its front. Assumes nothing.
 use mathlib.Core.Path.{_≡_, refl, sym, ap, _∙_}
-use mathlib.Core.List.{List, [], _∷_, _++_, append-nil}
-use Prim.Native.Nat.{ℕ, suc, _+_, _-_, _≤_, _<_}
+use mathlib.Core.List.{List, [], _∷_, _++_, append-nil, append-assoc}
+use Prim.Native.Nat.{ℕ, _+_}
 use native.Mathlib.Omega.{arith}
-use borrow.Author.Tests.{lt-ltb}
-use lib.ListN.{length, length-append, replicate, set}
-use lib.Seq.{append-snoc, set-append-seam}
+use lib.ListN.{length, length-append}
+use lib.Seq.{sets, append-snoc}
 use Rattle.measure.specs.Measures.{upTo64, symbols}
 use Rattle.balanced.specs.declared.Line.{Line}
-use Rattle.planner.specs.declared.sheet.Sheet.{Sheet}
-use Rattle.planner.specs.Plans.{blank, held}
-use Rattle.planner.specs.Sheets.{empty, pushed, filled}
+use Rattle.buffer.proofs.Putting.{sets-sets}
+use Rattle.report.specs.Text.{header, lineText, text}
+use Rattle.report.proofs.LineText.{below, below-snoc, text-below, text-none, header-length}
+use Rattle.planner.specs.Pages.{Page, pushed, filled}
 
 -- the sum of the lines' delays
 unfoldable pub delays : List Line → ℕ
@@ -22,44 +22,43 @@ unfolding delays
 delays-append [] ys = omega arith
 delays-append (x ∷ xs) ys = omega (arith, delays-append xs ys)
 
--- the sheet with these lines
-unfoldable pub sheetOf : List Line → Sheet
-sheetOf ls = record { lines = held ls; count = length ls; delay = symbols (upTo64 (delays ls)) }
+-- lent memory with the text of these lines at its front
+unfoldable pub pageOf : List ℕ → List Line → Page
+pageOf b ls = record { end = length (text ls); delay = symbols (upTo64 (delays ls)); bytes = sets b 0 (text ls) }
 
 -- two lists one after the other
-pub filled-append : (t : Sheet) (xs ys : List Line) → filled (filled t xs) ys ≡ filled t (xs ++ ys)
+pub filled-append : (p : Page) (xs ys : List Line) → filled (filled p xs) ys ≡ filled p (xs ++ ys)
 unfolding filled
-filled-append t [] ys = refl
-filled-append t (x ∷ xs) ys = filled-append (pushed t x) xs ys
+filled-append p [] ys = refl
+filled-append p (x ∷ xs) ys = filled-append (pushed p x) xs ys
 
--- a stored line takes the first blank place
-held-more : (ls : List Line) (l : Line) → length ls < 26 → set (held ls) (length ls) l ≡ held (ls ++ (l ∷ []))
-unfolding held
-held-more ls l h =
-    let m : ℕ = 26 - suc (length ls) in
-    let e : 26 - length ls ≡ suc m = omega arith in
-    let f : 26 - length (ls ++ (l ∷ [])) ≡ m = omega (arith, length-append ls (l ∷ [])) in
-    rw (e, f) (set-append-seam ls blank (replicate m blank) l ∙ sym (append-snoc ls l (replicate m blank)))
+-- the text with one line more
+text-snoc : (ls : List Line) (l : Line) → text (ls ++ (l ∷ [])) ≡ text ls ++ (lineText l ++ 10 ∷ [])
+text-snoc ls l =
+    text-below (ls ++ (l ∷ [])) ∙ ap (λ (t : List ℕ). (header ++ 10 ∷ []) ++ t) (below-snoc ls l)
+    ∙ sym (append-assoc (header ++ 10 ∷ []) (below ls) (lineText l ++ 10 ∷ [])) ∙ ap (λ (t : List ℕ). t ++ (lineText l ++ 10 ∷ [])) (sym (text-below ls))
 
-pub pushed-held : (ls : List Line) (l : Line) → length ls < 26 → pushed (sheetOf ls) l ≡ sheetOf (ls ++ (l ∷ []))
-unfolding pushed sheetOf delays
-pushed-held ls l h =
-    let n : length ls + 1 ≡ length (ls ++ (l ∷ [])) = sym (length-append ls (l ∷ [])) in
+pub pushed-text : (b : List ℕ) (ls : List Line) (l : Line) → pushed (pageOf b ls) l ≡ pageOf b (ls ++ (l ∷ []))
+unfolding pushed pageOf delays
+pushed-text b ls l =
+    let t : List ℕ = lineText l ++ 10 ∷ [] in
+    let n : length (text ls) + length t ≡ length (text (ls ++ (l ∷ []))) = sym (ap length (text-snoc ls l) ∙ length-append (text ls) t) in
     let d : upTo64 (upTo64 (delays ls) + l .figures .delay .0) ≡ upTo64 (delays (ls ++ (l ∷ []))) = omega (arith, delays-append ls (l ∷ [])) in
-    rw (lt-ltb (length ls) 26 h, held-more ls l h, n, d)
+    let z : 0 + length (text ls) ≡ length (text ls) = omega arith in
+    let e : sets (sets b 0 (text ls)) (length (text ls)) t ≡ sets b 0 (text (ls ++ (l ∷ []))) = (rw z at (sets-sets b 0 (text ls) t)) ∙ ap (sets b 0) (sym (text-snoc ls l)) in
+    rw (n, d, e) refl
 
-filled-held : (xs ls : List Line) → length xs + length ls ≤ 26 → filled (sheetOf xs) ls ≡ sheetOf (xs ++ ls)
+-- lines behind lines
+pub filled-text : (b : List ℕ) (xs ls : List Line) → filled (pageOf b xs) ls ≡ pageOf b (xs ++ ls)
 unfolding filled
-filled-held xs [] h = ap sheetOf (sym (append-nil xs))
-filled-held xs (l ∷ ls) h =
-    ap (λ (t : Sheet). filled t ls) (pushed-held xs l (omega arith))
-    ∙ filled-held (xs ++ (l ∷ [])) ls (omega (arith, length-append xs (l ∷ [])))
-    ∙ ap sheetOf (append-snoc xs l ls)
+filled-text b xs [] = ap (pageOf b) (sym (append-nil xs))
+filled-text b xs (l ∷ ls) =
+    ap (λ (p : Page). filled p ls) (pushed-text b xs l) ∙ filled-text b (xs ++ (l ∷ [])) ls ∙ ap (pageOf b) (append-snoc xs l ls)
 
-no-lines : empty ≡ sheetOf []
-unfolding empty sheetOf held delays
-no-lines = refl
-
--- up to 26 lines fit
-pub filled-empty : (ls : List Line) → length ls ≤ 26 → filled empty ls ≡ sheetOf ls
-filled-empty ls h = ap (λ (t : Sheet). filled t ls) no-lines ∙ filled-held [] ls (omega arith)
+-- the header line alone
+pub no-lines : (b c : List ℕ) (n : ℕ) → n ≡ 56 → c ≡ sets b 0 (header ++ 10 ∷ []) → _≡_ {A = Page} (record { end = n; delay = symbols 0; bytes = c }) (pageOf b [])
+unfolding pageOf delays
+no-lines b c n en ec =
+    let k : n ≡ length (text []) = en ∙ sym (ap length text-none ∙ header-length) in
+    let t : c ≡ sets b 0 (text []) = ec ∙ ap (sets b 0) (sym text-none) in
+    rw (k, t) refl

@@ -1,53 +1,71 @@
--- What the inner functions presume and answer. Nobody has to believe this: the contract of the entry does not use it. Assumes nothing:
--- these are definitions.
+-- What the inner functions presume and answer. Nobody has to believe this: the contract of the entry does not use it, but for numbers 3
+-- to 6 as a list. Assumes nothing: these are definitions.
 use mathlib.Core.Path.{_≡_}
-use mathlib.Core.List.{List, _++_}
+use mathlib.Core.List.{List, [], _∷_, _++_}
 use Prim.Native.Nat.{ℕ, zero, suc, _+_, _*_, _≤_, _<_}
 use lib.ListN.{getD, length}
-use Rattle.measure.specs.declared.Rate.{Rate}
-use Rattle.measure.specs.Measures.{symbols, slots, frames, perInterval}
+use lib.Seq.{sets}
+use Rattle.measure.specs.Measures.{symbols, slots, frames}
 use Rattle.links.specs.declared.Load.{Load}
 use Rattle.links.specs.declared.Timing.{Timing}
-use Rattle.links.specs.Link.{load, plus, times, reservationOf}
+use Rattle.links.specs.Link.{load, plus, times, afterLink, reservationOf}
 use Rattle.refusals.specs.declared.Refusal.{Refusal}
 use Rattle.refusals.specs.Conditions.{Condition, firstBroken}
 use Rattle.settings.specs.declared.Settings.{Settings}
 use Rattle.settings.specs.Checks.{checks}
-use Rattle.planner.specs.declared.rates.Link.{Link}
+use Rattle.planner.specs.declared.table.Link.{Link}
 use Rattle.balanced.specs.Times.{timingOf}
 use Rattle.balanced.specs.Loads.{left, upward, downward}
 use Rattle.balanced.specs.Checks.{reservations, routersFit, usedFrom}
 use Rattle.balanced.specs.Lines.{lines}
-use Rattle.planner.specs.declared.Plan.{Plan}
-use Rattle.planner.specs.Plans.{planned, refused}
+use Rattle.balanced.specs.Outcome.{Outcome, Planned, Refused}
 
--- the link that a rate enters
-unfoldable pub linkOf : Timing → Rate → Link
-linkOf t ρ = record { rate = ρ; reservation = reservationOf t ρ }
+-- ---- links
 
--- what stands where no depth is
-unfoldable pub noLink : Link
-noLink = record { rate = perInterval 0; reservation = record { slots = slots 0; frames = frames 0; latency = symbols 0 } }
+-- the link that a load enters
+unfoldable pub linkOf : Timing → Load → Link
+linkOf t a = record { load = a; reservation = reservationOf t (a .rate) }
 
-unfoldable pub noLoad : Load
-noLoad = load 0 0
-
--- a table of depths holds f from depth i to depth h
-pub record HeldFrom {A : Type 0} (f : ℕ → A) (none : A) (i h : ℕ) (l : List A) : Type 0 where
-  pub size : length l ≡ 13
-  pub held : (j : ℕ) → i ≤ j → j ≤ h → getD l j none ≡ f j
-
--- and below depth n
-pub record HeldBelow {A : Type 0} (f : ℕ → A) (none : A) (n : ℕ) (l : List A) : Type 0 where
-  pub size : length l ≡ 13
-  pub held : (j : ℕ) → j < n → getD l j none ≡ f j
+-- the load that has left it
+abbrev pub leftBy : Link → Load
+leftBy v = afterLink (v .load) (v .reservation)
 
 -- the links of the depths, upward and downward
 unfoldable pub linkUp : Settings → ℕ → Link
-linkUp s i = linkOf (timingOf s) (upward s i .rate)
+linkUp s i = linkOf (timingOf s) (upward s i)
 
 unfoldable pub linkDown : Settings → ℕ → Link
-linkDown s i = linkOf (timingOf s) (downward s i .rate)
+linkDown s i = linkOf (timingOf s) (downward s i)
+
+-- ---- tables of links by depth, five numbers for each
+
+unfoldable pub linkIn : List ℕ → ℕ → Link
+linkIn ns i = record {
+  load = load (getD ns (5 * i) 0) (getD ns (5 * i + 1) 0);
+  reservation = record { slots = slots (getD ns (5 * i + 2) 0); frames = frames (getD ns (5 * i + 3) 0); latency = symbols (getD ns (5 * i + 4) 0) };
+}
+
+-- a link's numbers
+abbrev pub five : Link → List ℕ
+five v = v .load .rate .0 ∷ v .load .burst .0 ∷ v .reservation .slots .0 ∷ v .reservation .frames .0 ∷ v .reservation .latency .0 ∷ []
+
+abbrev pub linkSet : List ℕ → ℕ → Link → List ℕ
+linkSet ns i v = sets ns (5 * i) (five v)
+
+-- a table holds f from depth i to depth h
+pub record HeldFrom (f : ℕ → Link) (i h : ℕ) (ns : List ℕ) : Type 0 where
+  pub size : length ns ≡ 65
+  pub held : (j : ℕ) → i ≤ j → j ≤ h → linkIn ns j ≡ f j
+
+-- and below depth n
+pub record HeldBelow (f : ℕ → Link) (n : ℕ) (ns : List ℕ) : Type 0 where
+  pub size : length ns ≡ 65
+  pub held : (j : ℕ) → j < n → linkIn ns j ≡ f j
+
+-- ---- loads
+
+unfoldable pub noLoad : Load
+noLoad = load 0 0
 
 -- what comes down to the router of depth i on the sink's path: nothing to the root, else what left the router above it
 unfoldable pub coming : Settings → ℕ → Load
@@ -58,14 +76,12 @@ coming s (suc i) = left s (downward s i)
 abbrev pub joined : Load → Load → ℕ → Load → Load
 joined near below n down = plus (plus near (times n below)) down
 
--- the same of rates alone
-abbrev pub joinedRate : Rate → Rate → ℕ → Rate → Rate
-joinedRate near below n down = perInterval (near .0 + n * below .0 + down .0)
+-- ---- conditions
 
 -- numbers 3 to 6
 unfoldable pub checksBeforeSlots : Settings → List (Condition Refusal)
 checksBeforeSlots s = checks s ++ reservations s ++ routersFit s
 
--- the plan of settings that keep them
-unfoldable pub soundPlan : Settings → Plan
-soundPlan s = firstBroken refused (planned (lines s)) (usedFrom s (suc (s .h)) 0)
+-- the outcome of settings that keep them
+unfoldable pub soundOutcome : Settings → Outcome
+soundOutcome s = firstBroken Refused (Planned (lines s)) (usedFrom s (suc (s .h)) 0)

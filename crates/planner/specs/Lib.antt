@@ -1,7 +1,7 @@
--- Definitions of the planner. Assumes nothing.
--- what a reader must believe: the plan of any settings
+-- Definitions of the planner's answers. Assumes nothing.
+-- what a reader must believe: the answer to an outcome, and what is put
 pub mod Plans
--- what the inner functions presume and answer: links and loads by depth, numbers 3 to 6, the plan of settings that keep them
+-- what the inner functions presume and answer
 pub mod Inner
--- how the inner functions collect lines
-pub mod Sheets
+-- how they put lines
+pub mod Pages

@@ -1,47 +1,50 @@
-// Plans: from settings to the lines of the plan or the first refusal of numbers 3 to 7 (document 01, 'The tree and its loads' and 'The
-// printed plan'), and demand 3 with them.
+// Plans: from settings to the text of the plan or the first refusal of numbers 3 to 7 (document 01, 'The tree and its loads' and 'The
+// printed plan'), and demand 3 with it.
 //
-// The public function has no `requires`: it may be handed settings that nobody checked, and answers all of them, as an equation with a
-// definition of specs/ says. Inner functions presume what the checks before them have found; their `requires` say what.
+// The public functions have no `requires`: settings may come that nobody checked, and lent memory of any length. Each answers all of
+// them, as equations with definitions of specs/ say. Inner functions presume what the checks before them have found; their `requires`
+// say what.
 ghost use mathlib.Core.Path.{_≡_};
-ghost use lib.ListN.{take};
+ghost use Prim.Native.Nat.{_≤_};
+ghost use lib.Seq.{sets};
 ghost use Rattle.refusals.specs.declared.Verdict.the-variants.{Kept, Broken};
 ghost use Rattle.refusals.specs.Conditions.{firstBroken};
+ghost use Rattle.balanced.specs.Lines.{lines};
+ghost use Rattle.balanced.specs.Outcome.{outcomeOf};
 ghost use Rattle.balanced.specs.Promise.{Keeps};
-ghost use Rattle.planner.specs.Plans.{planOf, refused};
+ghost use Rattle.planner.specs.Plans.{answer, refused, written};
 ghost use Rattle.planner.specs.Inner.{checksBeforeSlots};
-use crate::sheet::empty_sheet;
-use balanced::Line;
 use refusals::Refusal;
 use refusals::Verdict;
 use settings::Settings;
 
 mod timing; // the times that a row sets
-mod rates; // the rate of every link and its reservation, from depth H to the root and on to the sink
 mod counts; // numbers 5 and 6
+mod table; // the links of the depths
+mod loads; // the load and the reservation of every link, from depth H to the root and on to the sink
 mod slots; // number 7
-mod bursts; // the load of every link, the same way as the rates
-mod sheet; // the lines, collected in their order
+mod page; // the lines, put one behind another
 mod lines; // the lines of a row that keeps numbers 3 to 6
 
-// What settings come to: whether they are planned, and the plan's lines, `count` of them, at the front of `lines`. Behind them, and
-// where the settings are refused, all lines are blank.
+// What settings come to: whether they are planned, and the length of the plan's text, 0 where they are refused.
 pub struct Plan {
     pub verdict: Verdict,
-    pub lines: [Line; 26],
-    pub count: usize,
+    pub length: usize,
 }
 
-// The plan of any settings. Where they are planned, demand 3 holds of the lines.
-pub fn plan_of(s: Settings) -> Plan
-    ensures { λ r. ⌜ r ≡ planOf s ⌝ }
-    ensures { λ r. ⌜ (r .verdict ≡ Kept → Keeps s (take (r .count) (r .lines))) ⌝ }
+// Plans any settings, and puts the plan's text at the front of lent memory, as far as there is room. Refused settings leave every byte
+// as it was. Where they are planned, demand 3 holds of the lines.
+pub fn plan_of(s: Settings, out: &mut [u8]) -> Plan
+    ensures { λ r. ⌜ r ≡ answer (outcomeOf s) ⌝ }
+    ensures { λ r. ⌜ r .length ≤ 4476 ⌝ }
+    ensures { λ _. ⌜ now (out .exit) ≡ sets (now (out .entry)) 0 (written (outcomeOf s)) ⌝ }
+    ensures { λ r. ⌜ (r .verdict ≡ Kept → Keeps s (lines s)) ⌝ }
 {
     let verdict = check_before_slots(s);
     if let Verdict::Broken(refusal) = verdict {
         return refused_plan(refusal);
     }
-    lines::plan_sound(s)
+    lines::plan_sound(s, out)
 }
 
 // Numbers 3 to 6, in their order.
@@ -63,11 +66,8 @@ fn check_before_slots(s: Settings) -> Verdict
 pub fn refused_plan(refusal: Refusal) -> Plan
     ensures { λ r. ⌜ r ≡ refused refusal ⌝ }
 {
-    let sheet = empty_sheet();
-    let lines = sheet.lines;
     Plan {
         verdict: Verdict::Broken(refusal),
-        lines,
-        count: 0,
+        length: 0,
     }
 }

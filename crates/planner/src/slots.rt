@@ -11,20 +11,20 @@ ghost use Rattle.balanced.specs.Times.{timingOf, reservableOf};
 ghost use Rattle.balanced.specs.Loads.{sensor};
 ghost use Rattle.balanced.specs.Checks.{usedOffPath, usedOnPath, hasOffPath, offPathAt, usedAt, usedFrom};
 ghost use Rattle.balanced.specs.Bounds.{Sound};
-ghost use Rattle.planner.specs.Inner.{HeldFrom, HeldBelow, linkOf, linkUp, linkDown, noLink};
-use crate::rates::Links;
+ghost use Rattle.planner.specs.Inner.{HeldFrom, HeldBelow, linkOf, linkUp, linkDown};
+use crate::table::link_at;
 use measure::Slots;
 use refusals::Refusal;
 use refusals::Verdict;
 use settings::Settings;
 
 // Number 7: the first depth at which the slots used exceed L, if there is one. `end` is an end node's reservation.
-pub(crate) fn slots_fit(s: Settings, l: Slots, end: Slots, up: Links, down: Links) -> Verdict
+pub(crate) fn slots_fit(s: Settings, l: Slots, end: Slots, up: &[u64], down: &[u64]) -> Verdict
     requires { ⌜ Sound s ⌝ }
     requires { ⌜ l ≡ reservableOf s ⌝ }
-    requires { ⌜ end ≡ linkOf (timingOf s) (sensor s .rate) .reservation .slots ⌝ }
-    requires { ⌜ HeldFrom (linkUp s) noLink 0 (s .h) (up .at) ⌝ }
-    requires { ⌜ HeldBelow (linkDown s) noLink (s .sink) (down .at) ⌝ }
+    requires { ⌜ end ≡ linkOf (timingOf s) (sensor s) .reservation .slots ⌝ }
+    requires { ⌜ HeldFrom (linkUp s) 0 (s .h) (now up) ⌝ }
+    requires { ⌜ HeldBelow (linkDown s) (s .sink) (now down) ⌝ }
     ensures { λ r. ⌜ r ≡ firstBroken Broken Kept (usedFrom s (suc (s .h)) 0) ⌝ }
 {
     let mut i = 0;
@@ -39,12 +39,12 @@ pub(crate) fn slots_fit(s: Settings, l: Slots, end: Slots, up: Links, down: Link
 }
 
 // Number 7 at depth i: the routers off the sink's path, and the one on it.
-fn depth_fits(s: Settings, l: Slots, end: Slots, up: Links, down: Links, i: u64) -> Verdict
+fn depth_fits(s: Settings, l: Slots, end: Slots, up: &[u64], down: &[u64], i: u64) -> Verdict
     requires { ⌜ Sound s ⌝ }
     requires { ⌜ l ≡ reservableOf s ⌝ }
-    requires { ⌜ end ≡ linkOf (timingOf s) (sensor s .rate) .reservation .slots ⌝ }
-    requires { ⌜ HeldFrom (linkUp s) noLink 0 (s .h) (up .at) ⌝ }
-    requires { ⌜ HeldBelow (linkDown s) noLink (s .sink) (down .at) ⌝ }
+    requires { ⌜ end ≡ linkOf (timingOf s) (sensor s) .reservation .slots ⌝ }
+    requires { ⌜ HeldFrom (linkUp s) 0 (s .h) (now up) ⌝ }
+    requires { ⌜ HeldBelow (linkDown s) (s .sink) (now down) ⌝ }
     requires { ⌜ i ≤ s .h ⌝ }
     ensures { λ r. ⌜ r ≡ firstBroken Broken Kept (usedAt s i) ⌝ }
 {
@@ -97,30 +97,30 @@ fn has_off_path(s: Settings, i: u64) -> bool
 }
 
 // What a router off the sink's path uses at depth i: NE end nodes, and above depth H NR child routers.
-fn off_path_slots(s: Settings, end: Slots, up: Links, i: u64) -> Slots
+fn off_path_slots(s: Settings, end: Slots, up: &[u64], i: u64) -> Slots
     requires { ⌜ Sound s ⌝ }
-    requires { ⌜ end ≡ linkOf (timingOf s) (sensor s .rate) .reservation .slots ⌝ }
-    requires { ⌜ HeldFrom (linkUp s) noLink 0 (s .h) (up .at) ⌝ }
+    requires { ⌜ end ≡ linkOf (timingOf s) (sensor s) .reservation .slots ⌝ }
+    requires { ⌜ HeldFrom (linkUp s) 0 (s .h) (now up) ⌝ }
     ensures { λ r. ⌜ r ≡ usedOffPath s i ⌝ }
 {
     let ends = end.times(s.ne);
     if i < s.h {
-        let below = up.get(i + 1).reservation.slots;
+        let below = link_at(up, i + 1).reservation.slots;
         return ends.plus(below.times(s.nr));
     }
     ends
 }
 
 // What the router on the sink's path uses at depth i: one of the NR is replaced by the downward one.
-fn on_path_slots(s: Settings, end: Slots, up: Links, down: Links, i: u64) -> Slots
+fn on_path_slots(s: Settings, end: Slots, up: &[u64], down: &[u64], i: u64) -> Slots
     requires { ⌜ Sound s ⌝ }
-    requires { ⌜ end ≡ linkOf (timingOf s) (sensor s .rate) .reservation .slots ⌝ }
-    requires { ⌜ HeldFrom (linkUp s) noLink 0 (s .h) (up .at) ⌝ }
-    requires { ⌜ HeldBelow (linkDown s) noLink (s .sink) (down .at) ⌝ }
+    requires { ⌜ end ≡ linkOf (timingOf s) (sensor s) .reservation .slots ⌝ }
+    requires { ⌜ HeldFrom (linkUp s) 0 (s .h) (now up) ⌝ }
+    requires { ⌜ HeldBelow (linkDown s) (s .sink) (now down) ⌝ }
     requires { ⌜ i < s .sink ⌝ }
     ensures { λ r. ⌜ r ≡ usedOnPath s i ⌝ }
 {
-    let below = up.get(i + 1).reservation.slots;
-    let own = down.get(i).reservation.slots;
+    let below = link_at(up, i + 1).reservation.slots;
+    let own = link_at(down, i).reservation.slots;
     end.times(s.ne).plus(below.times(s.nr - 1)).plus(own)
 }

@@ -9,3 +9,5 @@ pub mod Broken
 pub mod Laws
 -- calls with buffers at the edges, computed in one table
 pub mod Examples
+-- the answer to a plan, as an inner function gives it
+pub mod Inner

@@ -8,11 +8,12 @@ ghost use Prim.Native.Nat.{_≤_};
 ghost use Rattle.balanced.specs.Outcome.{Refused};
 ghost use Rattle.planner_c.specs.Entries.{told, planRow, checkRow, left};
 ghost use Rattle.planner_c.specs.Promise.{Promised};
+ghost use Rattle.planner_c.specs.Inner.{answerOf};
 use answers::plan_named_row;
+use planner::Plan;
 use refusals::Refusal;
 use refusals::Verdict;
 use report::LONGEST;
-use report::put_plan;
 
 // What a call answers: 0, 0 and the text's length where the row is planned; else number and place of the refusal, and 0.
 #[repr(C)]
@@ -28,15 +29,8 @@ pub extern "C" fn planner_check_row(names: &[u8], row: &[u8]) -> Answer
     ensures { λ r. ⌜ r ≡ checkRow (now (names .entry)) (now (row .entry)) ⌝ }
     ensures { λ r. ⌜ r .length ≤ 4476 ⌝ }
 {
-    let plan = plan_named_row(names, row);
-    let verdict = plan.verdict;
-    if let Verdict::Broken(refusal) = verdict {
-        return refused(refusal);
-    }
     let mut space = [0u8; LONGEST];
-    let lines = plan.lines;
-    let n = put_plan(&mut space, lines, plan.count);
-    planned(n)
+    answer_of(plan_named_row(names, row, &mut space))
 }
 
 // Plans a row under a line of names, both without their LF, and puts its text at the front of the lent buffer. A refused row, also one
@@ -46,30 +40,38 @@ pub extern "C" fn planner_plan_row(names: &[u8], row: &[u8], out: &mut [u8]) -> 
     ensures { λ r. ⌜ left r (now (out .exit)) ≡ planRow (now (names .entry)) (now (row .entry)) (now (out .entry)) ⌝ }
     ensures { λ r. ⌜ Promised (now (row .entry)) r (now (out .exit)) ⌝ }
 {
-    let plan = plan_named_row(names, row);
-    let verdict = plan.verdict;
-    if let Verdict::Broken(refusal) = verdict {
-        return refused(refusal);
+    if out.len() < LONGEST {
+        return plan_apart(names, row, out);
     }
-    // The text is made here first: its length is known before a byte is written.
+    answer_of(plan_named_row(names, row, out))
+}
+
+// The same for a buffer that may be too short: the text is made apart from it, so that its length is known before a byte is written.
+fn plan_apart(names: &[u8], row: &[u8], out: &mut [u8]) -> Answer
+    ensures { λ r. ⌜ left r (now (out .exit)) ≡ planRow (now (names .entry)) (now (row .entry)) (now (out .entry)) ⌝ }
+{
     let mut space = [0u8; LONGEST];
-    let lines = plan.lines;
-    let n = put_plan(&mut space, lines, plan.count);
+    let plan = plan_named_row(names, row, &mut space);
+    let n = plan.length;
     if out.len() < n {
         return refused(Refusal::LentTooShort);
     }
     bytes::copy(&space[..n], out);
-    planned(n)
+    answer_of(plan)
 }
 
-// The answer to a planned row whose text has this length.
-fn planned(length: usize) -> Answer
-    ensures { λ r. ⌜ r ≡ record { number = 0; place = 0; length = length } ⌝ }
+// The answer to a plan: number 0 and the text's length, or number and place of the refusal.
+fn answer_of(plan: Plan) -> Answer
+    ensures { λ r. ⌜ r ≡ answerOf plan ⌝ }
 {
+    let verdict = plan.verdict;
+    if let Verdict::Broken(refusal) = verdict {
+        return refused(refusal);
+    }
     Answer {
         number: 0,
         place: 0,
-        length: length as u64,
+        length: plan.length as u64,
     }
 }
 

@@ -1,24 +1,30 @@
 -- Texts put one behind another, and the position behind them. Assumes nothing.
-use mathlib.Core.Path.{_≡_, refl, ap, _∙_}
+use mathlib.Core.Path.{_≡_, refl, ap, sym, _∙_}
 use mathlib.Core.List.{List, [], _∷_, _++_}
-use Prim.Native.Nat.{ℕ, _+_}
+use Prim.Native.Nat.{ℕ, suc, _+_, _≤_, min}
 use native.Mathlib.Omega.{arith}
+use native.Mathlib.Decide.{decLe}
 use native.Mathlib.Nat.{zero-add}
 use lib.ListN.{length, length-append, set}
-use lib.Seq.{sets, length-sets}
+use lib.Seq.{set-out, sets, length-sets}
 use Rattle.buffer.proofs.Putting.{sets-sets}
-use Rattle.balanced.specs.declared.Line.{Line}
-use Rattle.report.specs.Text.{header, text}
-use Rattle.report.proofs.LineText.{below, text-below}
+
+-- nothing is put behind the end
+sets-out : (e : List ℕ) (at : ℕ) (t : List ℕ) → length e ≤ at → sets e at t ≡ e
+sets-out e at [] h = refl
+sets-out e at (b ∷ bs) h = rw (set-out e at b h) (sets-out e (suc at) bs (omega arith))
+
+-- so a position may be taken down to the end
+pub sets-lower : (e : List ℕ) (at k : ℕ) (t : List ℕ) → k ≡ min at (length e) → sets e k t ≡ sets e at t
+sets-lower e at k t q = by (decLe at (length e)) where
+  by : Dec (at ≤ length e) → sets e k t ≡ sets e at t
+  by (yes h) = let z : k ≡ at = omega arith in rw z
+  by (no h) = sets-out e k t (omega arith) ∙ sym (sets-out e at t (omega arith))
 
 -- a text is put at a position of e, which leaves `out`, and `end` is behind it
 pub record Put (e : List ℕ) (at : ℕ) (t out : List ℕ) (end : ℕ) : Type 0 where
   pub ends : end ≡ at + length t
   pub leaves : out ≡ sets e at t
-
--- none
-pub put-none : (e : List ℕ) (at : ℕ) → Put e at [] e at
-put-none e at = record { ends = omega arith; leaves = refl }
 
 -- one byte
 pub put-one : (e : List ℕ) (at b : ℕ) (out : List ℕ) → out ≡ set e (at + 0) b → Put e at (b ∷ []) out (at + 1)
@@ -36,10 +42,6 @@ put-behind {e} {at} {t} u p q w = record {
 pub byte-behind : {e : List ℕ} {at : ℕ} {t out : List ℕ} {end : ℕ} {out′ : List ℕ} (b : ℕ)
     → Put e at t out end → out′ ≡ set out (end + 0) b → Put e at (t ++ b ∷ []) out′ (end + 1)
 byte-behind {end = end} b p w = let z : end + 0 ≡ end = omega arith in put-behind (b ∷ []) p refl (rw z at w)
-
--- a header line at the front, and lines behind it: a plan
-pub put-plan : {e out₀ out : List ℕ} {n₀ n : ℕ} (p : List Line) → Put e 0 (header ++ 10 ∷ []) out₀ n₀ → Put out₀ n₀ (below p) out n → Put e 0 (text p) out n
-put-plan p h q = rw (text-below p) (put-behind (below p) h (q .ends) (q .leaves))
 
 -- a text at the front ends at its length
 pub front-ends : {e t out : List ℕ} {end : ℕ} → Put e 0 t out end → end ≡ length t

@@ -5,5 +5,3 @@ pub mod Text
 pub mod Laws
 -- a line, a text and refusals' lines, computed in one table
 pub mod Examples
--- what the inner functions put
-pub mod Inner

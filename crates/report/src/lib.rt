@@ -1,13 +1,15 @@
 // The printed plan (document 01, 'The printed plan'): the text of a plan's lines, and of a refusal.
 //
-// No public function has a `requires`. Each puts its text at the front of lent memory as far as there is room, leaves the bytes behind
-// it as they were, and answers the text's whole length, as equations with definitions of specs/ say.
+// No public function has a `requires`. Each puts its text into lent memory as far as there is room, leaves all other bytes as they
+// were, and answers the text's whole length, as equations with definitions of specs/ say. A plan is put piece by piece: its header
+// line at the front, and each line behind the text before it.
 ghost use mathlib.Core.Path.{_≡_};
-ghost use Prim.Native.Nat.{_≤_};
-ghost use lib.ListN.{length, take};
+ghost use mathlib.Core.List.{[], _∷_, _++_};
+ghost use Prim.Native.Nat.{_≤_, min};
+ghost use lib.ListN.{length};
 ghost use lib.Seq.{sets};
-ghost use Rattle.report.specs.Text.{text, refusalText};
-use crate::line::put_line;
+ghost use Rattle.report.specs.Text.{header, lineText, refusalText};
+use crate::line::put_ended;
 use crate::line::put_spaced;
 use balanced::Line;
 use buffer::put_byte;
@@ -19,27 +21,37 @@ mod line; // one line of a plan
 // No text of a plan is longer: a header line of 56 bytes, and 26 lines of at most 170.
 pub const LONGEST: usize = 4476;
 
-// Puts the text of the first `count` of these lines, all where there are fewer.
-pub fn put_plan(out: &mut [u8], lines: [Line; 26], count: usize) -> usize
-    ensures { λ r. ⌜ r ≡ length (text (take count lines)) ⌝ }
-    ensures { λ r. ⌜ r ≤ 4476 ⌝ }
-    ensures { λ _. ⌜ now (out .exit) ≡ sets (now (out .entry)) 0 (text (take count lines)) ⌝ }
+// Puts the header line, and answers its length.
+pub fn put_header(out: &mut [u8]) -> usize
+    ensures { λ r. ⌜ r ≡ 56 ⌝ }
+    ensures { λ _. ⌜ now (out .exit) ≡ sets (now (out .entry)) 0 (header ++ 10 ∷ []) ⌝ }
 {
-    let mut n = put_bytes(
+    put_bytes(
         out,
         0,
         b"KIND DEPTH RATE BURST SLOTS FRAMES LATENCY BUFFER DELAY\n",
-    );
-    let mut k = 0;
-    while k < 26 {
-        if count <= k {
-            return n;
-        }
-        let line = lines[k];
-        n = put_line(out, n, line);
-        k += 1;
+    )
+}
+
+// Puts a line and its LF at a position, as far as there is room, and answers how long they are.
+pub fn put_line(out: &mut [u8], at: usize, line: Line) -> usize
+    ensures { λ r. ⌜ r ≡ length (lineText line ++ 10 ∷ []) ⌝ }
+    ensures { λ r. ⌜ r ≤ 170 ⌝ }
+    ensures { λ _. ⌜ now (out .exit) ≡ sets (now (out .entry)) at (lineText line ++ 10 ∷ []) ⌝ }
+{
+    // A position behind the end counts as the end, where there is no room either: so no position behind it wraps.
+    let start = lower(at, out.len());
+    put_ended(out, start, line) - start
+}
+
+// The lower of two positions.
+fn lower(a: usize, b: usize) -> usize
+    ensures { λ r. ⌜ r ≡ min a b ⌝ }
+{
+    if a <= b {
+        return a;
     }
-    n
+    b
 }
 
 // Puts the line of a refusal: R, number and place.

@@ -3,7 +3,7 @@
 pub mod Sums
 -- number 3, column by column
 pub mod Ranging
--- the code's table of ranges
+-- the columns' ranges, as the code's tests tell them
 pub mod Ranges
 -- numbers 3 and 4 as propositions
 pub mod CheckLaws

@@ -1,29 +1,27 @@
--- The table of ranges that the code has is the columns' own. Assumes nothing.
-use mathlib.Core.Path.{_≡_}
+-- The columns' ranges, as the code's tests tell them. Assumes nothing.
+use mathlib.Core.Path.{_≡_, refl}
 use mathlib.Core.Bool.{false}
-use mathlib.Core.List.{map}
-use Prim.Native.Nat.{ℕ, _≤_, _<_}
+use Prim.Native.Nat.{ℕ, zero, suc, _≤_, _<_}
+use native.Mathlib.Omega.{arith}
 use lib.Dec.{leb}
-use lib.ListN.{getD, List·getD-map}
 use borrow.Author.Tests.{le-leb, lt-leb}
-use Rattle.settings.specs.declared.columns.Range.{Range}
-use Rattle.settings.specs.Columns.{Column, column, table, columnAt, within}
+use Rattle.settings.specs.Columns.{table, columnAt, within}
 
-unfoldable pub rangeOf : Column → Range
-rangeOf c = record { 0 = c .lowest; 1 = c .highest }
+-- the lowest value of the first seven columns
+pub lowest-first : (k : ℕ) → k < 7 → 0 ≡ columnAt k .lowest
+unfolding table columnAt
+lowest-first zero h = refl
+lowest-first (suc zero) h = refl
+lowest-first (suc (suc zero)) h = refl
+lowest-first (suc (suc (suc zero))) h = refl
+lowest-first (suc (suc (suc (suc zero)))) h = refl
+lowest-first (suc (suc (suc (suc (suc zero))))) h = refl
+lowest-first (suc (suc (suc (suc (suc (suc zero)))))) h = refl
+lowest-first (suc (suc (suc (suc (suc (suc (suc k))))))) h = absurd (omega arith)
 
--- the range behind the first k
-unfoldable pub rangeAt : ℕ → Range
-rangeAt k = getD (map rangeOf table) k (record { 0 = 0; 1 = 0 })
+-- a value below the lowest is outside, one that is not is inside where it is at most the highest
+pub below-range : (k v l : ℕ) → l ≡ columnAt k .lowest → v < l → false ≡ within (columnAt k) v
+below-range k v l e h = let g = rw e at h in simp (lt-leb (columnAt k .lowest) v g)
 
-range-at : (k : ℕ) → rangeAt k ≡ rangeOf (columnAt k)
-unfolding rangeAt rangeOf columnAt
-range-at k = List·getD-map rangeOf table k (column "" 0 0)
-
-pub below-range : (k v : ℕ) → v < rangeAt k .0 → false ≡ within (columnAt k) v
-unfolding rangeOf
-below-range k v h = let g = rw (range-at k) at h in simp (lt-leb (columnAt k .lowest) v g)
-
-pub above-lowest : (k v : ℕ) → rangeAt k .0 ≤ v → leb v (rangeAt k .1) ≡ within (columnAt k) v
-unfolding rangeOf
-above-lowest k v h = let g = rw (range-at k) at h in rw (range-at k) (simp (le-leb (columnAt k .lowest) v g))
+pub above-lowest : (k v l h : ℕ) → l ≡ columnAt k .lowest → h ≡ columnAt k .highest → l ≤ v → leb v h ≡ within (columnAt k) v
+above-lowest k v l h e f g = let g′ = rw e at g in rw f (simp (le-leb (columnAt k .lowest) v g′))

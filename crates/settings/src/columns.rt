@@ -10,24 +10,6 @@ ghost use Rattle.settings.specs.Checks.{ranged};
 use refusals::Refusal;
 use refusals::Verdict;
 
-// The lowest and the highest value of a column.
-struct Range(u64, u64);
-
-const RANGES: [Range; 12] = [
-    Range(0, 14), // BO
-    Range(0, 14), // SO
-    Range(0, 12), // H
-    Range(0, 7), // NR
-    Range(0, 7), // NE
-    Range(0, 1), // OWN
-    Range(0, 12), // SINK
-    Range(1, 255), // BURST
-    Range(1, 4095), // RATE
-    Range(5, 126), // HEAD
-    Range(1, 122), // DATA
-    Range(0, 1), // ACK
-];
-
 // The first value outside its column's range, if any is.
 pub(crate) fn in_range(numbers: [u64; 12]) -> Verdict
     requires { ⌜ length numbers ≡ 12 ⌝ }
@@ -49,11 +31,74 @@ fn fits(k: usize, value: u64) -> bool
     requires { ⌜ k < 12 ⌝ }
     ensures { λ r. ⌜ r ≡ within (columnAt k) value ⌝ }
 {
-    let range = RANGES[k];
-    if value < range.0 {
+    if value < lowest(k) {
         return false;
     }
-    value <= range.1
+    value <= highest(k)
+}
+
+// The lowest value of the column behind the first k. (Tests and no table: an array would be copied at each use.)
+fn lowest(k: usize) -> u64
+    requires { ⌜ k < 12 ⌝ }
+    ensures { λ r. ⌜ r ≡ columnAt k .lowest ⌝ }
+{
+    if k < 7 {
+        return 0; // BO SO H NR NE OWN SINK
+    }
+    if k < 8 {
+        return 1; // BURST
+    }
+    if k < 9 {
+        return 1; // RATE
+    }
+    if k < 10 {
+        return 5; // HEAD
+    }
+    if k < 11 {
+        return 1; // DATA
+    }
+    0 // ACK
+}
+
+// The highest value of the column behind the first k.
+fn highest(k: usize) -> u64
+    requires { ⌜ k < 12 ⌝ }
+    ensures { λ r. ⌜ r ≡ columnAt k .highest ⌝ }
+{
+    if k < 1 {
+        return 14; // BO
+    }
+    if k < 2 {
+        return 14; // SO
+    }
+    if k < 3 {
+        return 12; // H
+    }
+    if k < 4 {
+        return 7; // NR
+    }
+    if k < 5 {
+        return 7; // NE
+    }
+    if k < 6 {
+        return 1; // OWN
+    }
+    if k < 7 {
+        return 12; // SINK
+    }
+    if k < 8 {
+        return 255; // BURST
+    }
+    if k < 9 {
+        return 4095; // RATE
+    }
+    if k < 10 {
+        return 126; // HEAD
+    }
+    if k < 11 {
+        return 122; // DATA
+    }
+    1 // ACK
 }
 
 // The refusal of the value behind the first k.

@@ -1,7 +1,10 @@
 -- `answers::plan_named_row` meets its contract. Assumes nothing.
 use mathlib.Core.Path.{ap, _∙_}
+use lib.Seq.{sets}
 use borrow.Author.Needs.{needs}
-use Rattle.planner.specs.Plans.{answer}
+use Rattle.balanced.specs.Outcome.{Outcome}
+use Rattle.planner.specs.Plans.{answer, written}
+use Rattle.answers.specs.Inner.{readOutcome}
 use Rattle.answers.proofs.Reading.{named-outcome}
 use Rattle.answers.proofs.plan_named_row.Statement.{statement}
 use Rattle.answers.proofs.plan_named_row.Tie as tie
@@ -12,10 +15,16 @@ read-named-row-requires c κs = search needs
 plan-read-requires : tie.Need-plan-read-requires
 plan-read-requires c κs = search needs
 
+same-length : tie.Need-same-length
+same-length c = search needs
+
 returns : tie.Need-returns
 returns c =
-    let a = c .before .before .before .before .args in
-    c .plan-read .ensures ∙ rw (c .before .read-named-row .ensures) (ap answer (named-outcome (a .names .now) (a .row .now)))
+    let a = c .before .before .before .before .before .before .before .before .args in
+    let w = c .before .before .plan-read .ensures in
+    let e = ap readOutcome (c .before .before .before .before .read-named-row .ensures) ∙ named-outcome (a .names .now) (a .row .now) in
+    (w .0 ∙ ap answer e, (w .1 .0, w .1 .1 ∙ ap (λ (o : Outcome). sets (a .out .now) 0 (written o)) e))
 
 pub plan-named-row-spec : {M : Type 1} → statement M
-plan-named-row-spec = tie.close (tie.spec read-named-row-requires plan-read-requires returns)
+plan-named-row-spec =
+    tie.close (tie.spec read-named-row-requires plan-read-requires same-length returns)

@@ -1,7 +1,9 @@
 -- `answers::plan_read` meets its contract. Assumes nothing.
-use Rattle.planner.specs.Plans.{answer, planOf}
-use Rattle.answers.specs.Inner.{readOutcome}
+use mathlib.Core.Path.{refl}
 use borrow.Author.Needs.{needs}
+use Rattle.planner.specs.Plans.{answer, written}
+use Rattle.planner.proofs.Answers.{refused-short}
+use Rattle.answers.specs.Inner.{readOutcome}
 use Rattle.answers.proofs.plan_read.Statement.{statement}
 use Rattle.answers.proofs.plan_read.Tie as tie
 
@@ -17,13 +19,25 @@ enum-known-row-2 c = search needs
 refused-plan-requires : tie.Need-refused-plan-requires
 refused-plan-requires c κs = search needs
 
+same-length : tie.Need-same-length
+same-length c = search needs
+
 returns : tie.Need-returns
-unfolding readOutcome planOf
-returns c = rw (c .before .before .row .given .1) (c .plan-of .ensures .0)
+unfolding readOutcome
+returns c = let w = c .before .before .plan-of .ensures in rw (c .before .before .before .before .before .row .given .1) (w .0, (w .1 .0, w .1 .1 .0))
 
 returns-2 : tie.Need-returns-2
-unfolding readOutcome answer
-returns-2 c = rw (c .before .before .row2 .given .1) (c .refused-plan .ensures)
+unfolding readOutcome answer written
+returns-2 c = rw (c .before .before .row2 .given .1) (c .refused-plan .ensures, (refused-short _ _ (c .refused-plan .ensures), refl))
 
 pub plan-read-spec : {M : Type 1} → statement M
-plan-read-spec = tie.close (tie.spec enum-known-row plan-of-requires enum-known-row-2 refused-plan-requires returns returns-2)
+plan-read-spec =
+    tie.close
+    (tie.spec
+    enum-known-row
+    plan-of-requires
+    enum-known-row-2
+    refused-plan-requires
+    same-length
+    returns
+    returns-2)

@@ -1,6 +1,10 @@
 -- `answers::plan_row` meets its contract. Assumes nothing.
-use mathlib.Core.Path.{_∙_}
+use mathlib.Core.Path.{ap, _∙_}
+use lib.Seq.{sets}
 use borrow.Author.Needs.{needs}
+use Rattle.balanced.specs.Outcome.{Outcome}
+use Rattle.planner.specs.Plans.{answer, written}
+use Rattle.answers.specs.Inner.{readOutcome}
 use Rattle.answers.proofs.Reading.{row-outcome}
 use Rattle.answers.proofs.plan_row.Statement.{statement}
 use Rattle.answers.proofs.plan_row.Tie as tie
@@ -11,10 +15,15 @@ read-row-requires c κs = search needs
 plan-read-requires : tie.Need-plan-read-requires
 plan-read-requires c κs = search needs
 
+same-length : tie.Need-same-length
+same-length c = search needs
+
 returns : tie.Need-returns
 returns c =
-    let a = c .before .before .before .args in
-    c .plan-read .ensures ∙ rw (c .before .read-row .ensures, row-outcome (a .row .now))
+    let a = c .before .before .before .before .before .before .before .args in
+    let w = c .before .before .plan-read .ensures in
+    let e = ap readOutcome (c .before .before .before .before .read-row .ensures) ∙ row-outcome (a .row .now) in
+    (w .0 ∙ ap answer e, (w .1 .0, w .1 .1 ∙ ap (λ (o : Outcome). sets (a .out .now) 0 (written o)) e))
 
 pub plan-row-spec : {M : Type 1} → statement M
-plan-row-spec = tie.close (tie.spec read-row-requires plan-read-requires returns)
+plan-row-spec = tie.close (tie.spec read-row-requires plan-read-requires same-length returns)

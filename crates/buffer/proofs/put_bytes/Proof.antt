@@ -1,66 +1,54 @@
 -- `buffer::put_bytes` meets its contract. Assumes nothing.
-use mathlib.Core.Path.{_≡_, refl, ap, _∙_}
-use Prim.Native.Nat.{_-_, _≤_}
-use native.Mathlib.Omega.{arith}
-use native.Mathlib.Numerals.{add-one}
-use lib.ListN.{length, take}
-use lib.Seq.{sets, length-sets, take-all}
+use Rattle.buffer.proofs.Putting.{sets-copied}
 use borrow.Author.Needs.{needs}
-use Rattle.buffer.proofs.Putting.{sets-next}
 use Rattle.buffer.proofs.put_bytes.Statement.{statement}
 use Rattle.buffer.proofs.put_bytes.Tie as tie
 
-abbrev Inv-loop : tie.InvT-loop
-Inv-loop out₀ at bytes k₀ out k = (k ≤ length bytes) × (out ≡ sets out₀ at (take k bytes))
+sub-if2 : tie.Need-sub-if2
+sub-if2 c = search needs
 
-abbrev μ-loop : tie.MeasureT-loop
-μ-loop out₀ at bytes k₀ out k = length bytes - k
+sub-copy : tie.Need-sub-copy
+sub-copy c = search needs
 
-loop-holds : tie.Need-loop-holds Inv-loop μ-loop
-loop-holds c = (omega arith, refl)
+part-copy-start : tie.Need-part-copy-start
+part-copy-start c = search needs
 
-shared-slice-read-put-byte : tie.Need-shared-slice-read-put-byte Inv-loop μ-loop
-shared-slice-read-put-byte c = search needs
+part-copy-end : tie.Need-part-copy-end
+part-copy-end c = search needs
 
-put-byte-requires : tie.Need-put-byte-requires Inv-loop μ-loop
-put-byte-requires c κs = search needs
+copy-requires : tie.Need-copy-requires
+copy-requires c κs = search needs
 
-add-k : tie.Need-add-k Inv-loop μ-loop
-add-k c = search needs
+same-length : tie.Need-same-length
+same-length c = search needs
 
-loop-less : tie.Need-loop-less Inv-loop μ-loop
-loop-less c = search needs
-
-loop-again : tie.Need-loop-again Inv-loop μ-loop
-loop-again c =
-    let loop = c .before .before .before .before .before .before .loop in
-    let a = c .before .before .before .before .before .before .before .before .before .args in
-    let h = c .before .before .before .before .before .loop-test .taken in
-    (omega arith, c .before .before .put-byte .ensures ∙ rw (loop .inv .1, add-one) (sets-next (a .out .now) (a .at) (a .bytes .now) (loop .k) h))
-
-same-length : tie.Need-same-length Inv-loop μ-loop
-same-length c =
-    let a = c .before .before .before .before .args in
-    ap length (c .before .loop .inv .1) ∙ length-sets (a .out .now) (a .at) (take (c .before .loop .k) (a .bytes .now))
-
-returns : tie.Need-returns Inv-loop μ-loop
+returns : tie.Need-returns
 returns c =
-    let loop = c .before .loop in
-    let a = c .before .before .before .before .args in
-    let e : loop .k ≡ length (a .bytes .now) = omega (arith, loop .inv .0, c .loop-test .left) in
-    (e, loop .inv .1 ∙ rw (take-all (loop .k) (a .bytes .now) (omega arith)))
+    let w = c .before .before .copy .ensures in
+    let n = c .before .before .before .before in
+    let a = n .before .before .before .before .args in
+    (w .0, sets-copied (a .out .now) (a .at) (a .text .now) _ (n .before .if1 .taken) (n .if2 .taken) (w .1))
+
+put-some-requires : tie.Need-put-some-requires
+put-some-requires c κs = search needs
+
+same-length-2 : tie.Need-same-length-2
+same-length-2 c = search needs
+
+returns-2 : tie.Need-returns-2
+returns-2 c = search needs
 
 pub put-bytes-spec : {M : Type 1} → statement M
 put-bytes-spec =
     tie.close
     (tie.spec
-    Inv-loop
-    μ-loop
-    loop-holds
-    shared-slice-read-put-byte
-    put-byte-requires
-    add-k
-    loop-less
-    loop-again
+    sub-if2
+    sub-copy
+    part-copy-start
+    part-copy-end
+    copy-requires
     same-length
-    returns)
+    returns
+    put-some-requires
+    same-length-2
+    returns-2)

@@ -1,8 +1,10 @@
 -- `planner::plan_of` meets its contract. Assumes nothing.
-use Rattle.planner.specs.Plans.{planOf}
-use mathlib.Core.Path.{_≡_, sym, _∙_}
-use Rattle.planner.proofs.Answers.{before-slots-broken, before-slots-kept, kept-sound, plan-keeps}
+use mathlib.Core.Path.{sym, ap, _∙_}
+use lib.Seq.{sets}
 use borrow.Author.Needs.{needs}
+use Rattle.balanced.specs.Outcome.{Outcome}
+use Rattle.planner.specs.Plans.{answer, written}
+use Rattle.planner.proofs.Answers.{before-slots-broken, before-slots-kept, kept-sound, plan-keeps, refused-answer, refused-put, refused-short}
 use Rattle.planner.proofs.plan_of.Statement.{statement}
 use Rattle.planner.proofs.plan_of.Tie as tie
 
@@ -16,20 +18,28 @@ refused-plan-requires : tie.Need-refused-plan-requires
 refused-plan-requires c κs = search needs
 
 returns : tie.Need-returns
-returns c = let s = c .before .before .before .before .before .args .s in
-    let e : c .refused-plan .result ≡ planOf s = c .refused-plan .ensures ∙ before-slots-broken s _ (sym (c .before .before .before .before .check-before-slots .ensures) ∙ c .before .before .verdict .given .1) in
-    (e, plan-keeps s (c .refused-plan .result) e)
+returns c =
+    let a = c .before .before .before .before .before .before .args in
+    let o = before-slots-broken (a .s) _ (sym (c .before .before .before .before .check-before-slots .ensures) ∙ c .before .before .verdict .given .1) in
+    let e = c .refused-plan .ensures ∙ refused-answer _ _ o in
+    (e, (refused-short _ _ (c .refused-plan .ensures), (refused-put _ _ (a .out .now) o, plan-keeps (a .s) (c .refused-plan .result) e)))
 
 enum-told : tie.Need-enum-told
 enum-told c = search needs
 
 plan-sound-requires : tie.Need-plan-sound-requires
-plan-sound-requires c κs = kept-sound (c .before .before .before .args .s) (sym (c .before .before .check-before-slots .ensures) ∙ c .enum-told .given .1)
+plan-sound-requires c κs = kept-sound (c .before .before .before .before .before .args .s) (sym (c .before .before .before .check-before-slots .ensures) ∙ c .before .enum-told .given .1)
+
+same-length : tie.Need-same-length
+same-length c = search needs
 
 returns-2 : tie.Need-returns-2
-returns-2 c = let s = c .before .before .before .before .args .s in
-    let e : c .plan-sound .result ≡ planOf s = c .plan-sound .ensures ∙ before-slots-kept s (sym (c .before .before .before .check-before-slots .ensures) ∙ c .before .enum-told .given .1) in
-    (e, plan-keeps s (c .plan-sound .result) e)
+returns-2 c =
+    let s = c .before .before .before .before .before .before .before .before .args .s in
+    let o = before-slots-kept s (sym (c .before .before .before .before .before .before .check-before-slots .ensures) ∙ c .before .before .before .before .enum-told .given .1) in
+    let w = c .before .before .plan-sound .ensures in
+    let e = w .0 ∙ ap answer o in
+    (e, (w .1 .0, (w .1 .1 ∙ ap (λ (x : Outcome). sets (c .before .before .before .before .before .before .before .before .args .out .now) 0 (written x)) o, plan-keeps s (c .before .before .plan-sound .result) e)))
 
 pub plan-of-spec : {M : Type 1} → statement M
 plan-of-spec =
@@ -41,4 +51,5 @@ plan-of-spec =
     returns
     enum-told
     plan-sound-requires
+    same-length
     returns-2)

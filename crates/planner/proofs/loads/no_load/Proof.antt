@@ -1,0 +1,12 @@
+-- `planner::loads::no_load` meets its contract. Assumes nothing.
+use borrow.Author.Needs.{needs}
+use Rattle.planner.specs.Inner.{noLoad}
+use Rattle.planner.proofs.loads.no_load.Statement.{statement}
+use Rattle.planner.proofs.loads.no_load.Tie as tie
+
+returns : tie.Need-returns
+unfolding noLoad
+returns c = search needs
+
+pub no-load-spec : {M : Type 1} → statement M
+no-load-spec = tie.close (tie.spec returns)
