@@ -1,0 +1,106 @@
+//! compare SEED ROWS TEXTS [PLAN-PROGRAM]
+//!
+//! Compares the planner's entries for C on ROWS random rows, and program `plan` on TEXTS random inputs, with the
+//! reference implementation. Exit status 0: no difference; 1: a difference, or something that rows can reach was not
+//! reached; 2: wrong arguments.
+
+use compare::calls::Calls;
+use compare::entries::Library;
+use compare::program;
+use compare::totals::Totals;
+use reference::rows::{self, Rng};
+use std::env;
+use std::path::{Path, PathBuf};
+use std::process::ExitCode;
+
+/// From this many rows on, everything that rows can reach must have been reached.
+const ENOUGH_ROWS: u64 = 100_000;
+
+struct Arguments {
+    seed: u64,
+    rows: u64,
+    texts: u64,
+    program: PathBuf,
+}
+
+fn main() -> ExitCode {
+    let Some(arguments) = read_arguments() else {
+        eprintln!("usage: compare SEED ROWS TEXTS [PLAN-PROGRAM]");
+        return ExitCode::from(2);
+    };
+    println!("seed {}", arguments.seed);
+    match run(&arguments) {
+        Ok(totals) => {
+            println!("{totals}");
+            ExitCode::SUCCESS
+        }
+        Err(report) => {
+            println!("{report}");
+            ExitCode::FAILURE
+        }
+    }
+}
+
+fn read_arguments() -> Option<Arguments> {
+    let given: Vec<String> = env::args().skip(1).collect();
+    let number = |index: usize| given.get(index).and_then(|text| text.parse().ok());
+    let program = given.get(3).map_or_else(default_program, PathBuf::from);
+    let arguments = Arguments { seed: number(0)?, rows: number(1)?, texts: number(2)?, program };
+    (given.len() <= 4).then_some(arguments)
+}
+
+/// target/bin/plan of the repository or, if it is not there, of the current directory.
+fn default_program() -> PathBuf {
+    let beside = Path::new(env!("CARGO_MANIFEST_DIR")).join("../../target/bin/plan");
+    if beside.exists() {
+        beside
+    } else {
+        PathBuf::from("target/bin/plan")
+    }
+}
+
+fn run(arguments: &Arguments) -> Result<Totals, String> {
+    let mut totals = compare_rows(arguments)?;
+    compare_texts(arguments, &mut totals)?;
+    check_reach(arguments, &totals)?;
+    Ok(totals)
+}
+
+fn compare_rows(arguments: &Arguments) -> Result<Totals, String> {
+    let mut calls = Calls::new(&Library, arguments.seed);
+    for index in 0..arguments.rows {
+        calls.next_row().map_err(|differing| {
+            format!(
+                "DIFFERENCE: seed {}, row {index}\nnames \"{}\"\nrow \"{}\"\n{}",
+                arguments.seed,
+                differing.names.escape_ascii(),
+                differing.row.escape_ascii(),
+                differing.report
+            )
+        })?;
+    }
+    Ok(calls.totals)
+}
+
+fn compare_texts(arguments: &Arguments, totals: &mut Totals) -> Result<(), String> {
+    let mut rng = Rng::new(!arguments.seed);
+    for index in 0..arguments.texts {
+        let text = rows::text(&mut rng);
+        let length = program::compare(&arguments.program, &text).map_err(|report| {
+            let text = text.escape_ascii();
+            format!("DIFFERENCE: seed {}, text {index}\ninput \"{text}\"\n{report}", arguments.seed)
+        })?;
+        totals.note_text(length);
+    }
+    Ok(())
+}
+
+fn check_reach(arguments: &Arguments, totals: &Totals) -> Result<(), String> {
+    let missing = if arguments.rows < ENOUGH_ROWS { Vec::new() } else { totals.seen.missing() };
+    let unexpected = totals.seen.unexpected();
+    if missing.is_empty() && unexpected.is_empty() {
+        Ok(())
+    } else {
+        Err(format!("NOT REACHED: {}; REACHED UNEXPECTEDLY: {}", missing.join(", "), unexpected.join(", ")))
+    }
+}

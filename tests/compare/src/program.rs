@@ -1,0 +1,74 @@
+//! Whole inputs through program `plan`.
+
+use std::io::{self, ErrorKind, Write};
+use std::path::Path;
+use std::process::{Command, Output, Stdio};
+use std::thread;
+
+/// Runs the program on an input and compares all that it prints, and its exit status, with the reference. Returns the
+/// number of bytes compared.
+pub fn compare(program: &Path, input: &[u8]) -> Result<usize, String> {
+    let expected = reference::program(input);
+    let output = run(program, input).map_err(|error| format!("{}: {error}", program.display()))?;
+    difference(&expected, &output.stdout, output.status.code())?;
+    Ok(expected.len())
+}
+
+/// The input is written by a thread of its own, so that neither side waits for the other with a full pipe.
+fn run(program: &Path, input: &[u8]) -> io::Result<Output> {
+    let mut child = Command::new(program).stdin(Stdio::piped()).stdout(Stdio::piped()).spawn()?;
+    let stdin = child.stdin.take();
+    thread::scope(|scope| {
+        let writer = scope.spawn(move || stdin.map_or(Ok(()), |mut pipe| feed(&mut pipe, input)));
+        let output = child.wait_with_output();
+        writer.join().expect("the writing thread does not panic")?;
+        output
+    })
+}
+
+/// Writes the input. A program that has seen enough of it may stop reading: that is no error.
+fn feed(pipe: &mut impl Write, input: &[u8]) -> io::Result<()> {
+    match pipe.write_all(input) {
+        Err(error) if error.kind() != ErrorKind::BrokenPipe => Err(error),
+        _ => Ok(()),
+    }
+}
+
+/// How the output and the exit status differ from what is expected.
+fn difference(expected: &[u8], printed: &[u8], status: Option<i32>) -> Result<(), String> {
+    if status != Some(0) {
+        return Err(format!("exit status {status:?}, expected 0"));
+    }
+    if expected == printed {
+        return Ok(());
+    }
+    let same = expected.iter().zip(printed).take_while(|(expected, printed)| expected == printed).count();
+    let line = expected[..same].iter().filter(|&&byte| byte == b'\n').count();
+    Err(format!(
+        "line {} of the output, counted from 1, is \"{}\", expected \"{}\"",
+        line + 1,
+        nth_line(printed, line).escape_ascii(),
+        nth_line(expected, line).escape_ascii(),
+    ))
+}
+
+fn nth_line(text: &[u8], line: usize) -> &[u8] {
+    text.split_inclusive(|&byte| byte == b'\n').nth(line).unwrap_or_default()
+}
+
+#[cfg(test)]
+mod tests {
+    use super::*;
+
+    #[test]
+    fn differences_are_reported() {
+        assert_eq!(difference(b"R 1 0\n", b"R 1 0\n", Some(0)), Ok(()));
+        assert!(difference(b"R 1 0\n", b"R 1 0\n", Some(1)).is_err());
+        assert!(difference(b"R 1 0\n", b"R 1 0\n", None).is_err());
+        assert!(difference(b"R 1 0\n", b"R 1 0", Some(0)).is_err());
+        assert!(difference(b"R 1 0\n", b"R 1 0\n\n", Some(0)).is_err());
+        assert!(difference(b"", b"R 1 0\n", Some(0)).is_err());
+        let report = difference(b"R 1 0\nR 2 1\n", b"R 1 0\nR 2 2\n", Some(0)).unwrap_err();
+        assert!(report.starts_with("line 2 of the output"), "{report}");
+    }
+}

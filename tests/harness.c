@@ -1,0 +1,1054 @@
+/*
+ * harness.c: calls the planner from C and checks what each call answers and leaves against planner.h and document 01.
+ *
+ *     harness ROWS.TXT SEED CALLS
+ *
+ * 1. The rows of the file, as the commissioning laptop's program would plan them. Standard output has what program
+ *    'plan' of document 01 prints for that file, and nothing else; all other output goes to standard error.
+ * 2. CALLS rows of noise from a generator that starts with SEED. The same SEED makes the same calls again.
+ * 3. Pointers that are NULL, or that point to memory nobody may touch, each beside length 0.
+ * 4. The deepest rows, in a thread with little stack.
+ *
+ * The library is not built with the sanitizers. So that a byte read or written outside is seen nevertheless, names, row
+ * and text each lie in memory of their own between two pages that nobody may touch, close against one of them.
+ *
+ * The exit status is 0 where all is well, 1 where something is not (the report names it), 2 where the file cannot be
+ * read or memory is short.
+ */
+#define _DEFAULT_SOURCE
+#include "planner.h"
+
+#include <inttypes.h>
+#include <pthread.h>
+#include <signal.h>
+#include <stdbool.h>
+#include <stdio.h>
+#include <stdlib.h>
+#include <string.h>
+#include <sys/mman.h>
+#include <unistd.h>
+
+#define NAMES "BO SO H NR NE OWN SINK BURST RATE HEAD DATA ACK"
+#define HEADER "KIND DEPTH RATE BURST SLOTS FRAMES LATENCY BUFFER DELAY\n"
+
+#define LONGEST_FILE 65536 /* number 9 of document 01: the program takes no more */
+#define LONGEST_NOISE 16384
+#define LONGEST_LOAN 4600 /* a little more than the longest text */
+#define WATCH_SECONDS 60  /* "every call returns": so long we wait for it */
+
+/* Bytes that somebody else holds. */
+struct slice {
+    const uint8_t *at;
+    size_t length;
+};
+
+/* Bytes that are handed over as names or as a row. */
+struct input {
+    uint8_t bytes[LONGEST_FILE];
+    size_t length;
+};
+
+/* Memory between two pages that nobody may touch. */
+struct region {
+    const char *name;
+    uint8_t *bytes;
+    size_t size;
+};
+
+/* Column by column, the ranges of document 01. */
+static const struct {
+    unsigned low, high;
+} ranges[12] = {{0, 14}, {0, 14},  {0, 12},   {0, 7},   {0, 7},   {0, 1},
+                {0, 12}, {1, 255}, {1, 4095}, {5, 126}, {1, 122}, {0, 1}};
+
+static uint64_t seed;
+static size_t page;
+static struct region names_region = {.name = "the names"}, row_region = {.name = "the row"},
+                     text_region = {.name = "the text"};
+
+/* What is being called at the moment, for the report. */
+static struct {
+    const char *part;
+    uint64_t call;
+    struct slice names, row;
+    size_t text_length;
+    planner_answer check, plan;
+} now = {.part = "start"};
+
+/* How often planner_plan_row gave each number. */
+static uint64_t answered[9];
+
+/* ---- The report of a failure. It is also written from a signal handler, so it uses nothing but write. ---- */
+
+static char report[10 * LONGEST_FILE];
+static size_t report_length;
+
+static void say_byte(char byte)
+{
+    if (report_length < sizeof report)
+        report[report_length++] = byte;
+}
+
+static void say(const char *text)
+{
+    while (*text != '\0')
+        say_byte(*text++);
+}
+
+static void say_number(uint64_t number)
+{
+    if (number >= 10)
+        say_number(number / 10);
+    say_byte((char)('0' + number % 10));
+}
+
+/* Printable characters as they are, all others and the backslash as \xHH. */
+static void say_escaped(struct slice bytes)
+{
+    static const char digits[] = "0123456789abcdef";
+    say_byte('"');
+    for (size_t i = 0; i < bytes.length; i++) {
+        uint8_t byte = bytes.at[i];
+        if (byte >= 0x20 && byte < 0x7f && byte != '\\' && byte != '"') {
+            say_byte((char)byte);
+        } else {
+            say("\\x");
+            say_byte(digits[byte >> 4]);
+            say_byte(digits[byte & 15]);
+        }
+    }
+    say_byte('"');
+}
+
+static void say_answer(const char *name, planner_answer answer)
+{
+    say(name);
+    say(": number ");
+    say_number(answer.number);
+    say(", place ");
+    say_number(answer.place);
+    say(", length ");
+    say_number(answer.length);
+    say("\n");
+}
+
+static void send_report(void)
+{
+    size_t sent = 0;
+    while (sent < report_length) {
+        ssize_t n = write(STDERR_FILENO, report + sent, report_length - sent);
+        if (n <= 0)
+            return;
+        sent += (size_t)n;
+    }
+}
+
+/* Behind "FAILED: " and what failed: the call, so that it can be made again. */
+static void report_call(void)
+{
+    say("\npart: ");
+    say(now.part);
+    say("\nseed: ");
+    say_number(seed);
+    say("\ncall: ");
+    say_number(now.call);
+    say("\nnames: ");
+    say_escaped(now.names);
+    say("\nrow: ");
+    say_escaped(now.row);
+    say("\nlength of text: ");
+    say_number(now.text_length);
+    say("\n");
+    say_answer("planner_check_row, latest answer", now.check);
+    say_answer("planner_plan_row, latest answer", now.plan);
+    send_report();
+}
+
+static _Noreturn void fail(const char *what)
+{
+    fflush(stdout);
+    say("FAILED: ");
+    say(what);
+    report_call();
+    _exit(1);
+}
+
+static void require(bool holds, const char *what)
+{
+    if (!holds)
+        fail(what);
+}
+
+/* For what is not the library's fault: no memory, no file. */
+static _Noreturn void stop(const char *what)
+{
+    perror(what);
+    exit(2);
+}
+
+/* ---- Memory between guard pages ---- */
+
+static void protect(const struct region *region, int how)
+{
+    if (mprotect(region->bytes, region->size, how) != 0)
+        stop("mprotect");
+}
+
+static void make_region(struct region *region, size_t size)
+{
+    uint8_t *all;
+    region->size = (size + page - 1) / page * page;
+    all = mmap(NULL, region->size + 2 * page, PROT_NONE, MAP_PRIVATE | MAP_ANONYMOUS, -1, 0);
+    if (all == MAP_FAILED)
+        stop("mmap");
+    region->bytes = all + page;
+    protect(region, PROT_READ | PROT_WRITE);
+}
+
+/* Where so many bytes lie: right behind the guard page in front, or right before the one at the end. */
+static uint8_t *spot(const struct region *region, size_t length, bool in_front)
+{
+    return in_front ? region->bytes : region->bytes + (region->size - length);
+}
+
+/* Memory for a thread's stack; the fence is moved up to the bytes that are to be free (part 4). */
+static struct region stack_region = {.name = "the thread's stack"};
+
+/* ---- Faults and calls that do not return ---- */
+
+static const char *place_of_fault(const struct region *region, uintptr_t address)
+{
+    uintptr_t start = (uintptr_t)region->bytes;
+    if (address < start - page || address >= start + region->size + page)
+        return NULL;
+    if (address < start)
+        return ", before ";
+    return address < start + region->size ? ", inside " : ", behind ";
+}
+
+static const char *name_of_signal(int number)
+{
+    switch (number) {
+    case SIGALRM:
+        return "a call did not return in time (SIGALRM)";
+    case SIGABRT:
+        return "the program was aborted (SIGABRT)";
+    case SIGILL:
+        return "an instruction that there is not (SIGILL)";
+    case SIGFPE:
+        return "a fault in arithmetic (SIGFPE)";
+    default:
+        return "memory was touched that may not be (SIGSEGV, SIGBUS)";
+    }
+}
+
+static void on_signal(int number, siginfo_t *info, void *context)
+{
+    const struct region *regions[] = {&names_region, &row_region, &text_region, &stack_region};
+    (void)context;
+    say("FAILED: ");
+    say(name_of_signal(number));
+    for (size_t i = 0; i < 4 && (number == SIGSEGV || number == SIGBUS); i++) {
+        const char *place = place_of_fault(regions[i], (uintptr_t)info->si_addr);
+        if (place != NULL) {
+            say(place);
+            say(regions[i]->name);
+        }
+    }
+    report_call();
+    _exit(1);
+}
+
+/* A handler needs a stack of its own where the thread's is used up. The sanitizers bring one; else this is taken. */
+static void have_signal_stack(uint8_t *bytes, size_t size)
+{
+    stack_t stack;
+    if (sigaltstack(NULL, &stack) == 0 && (stack.ss_flags & SS_DISABLE) == 0)
+        return;
+    stack.ss_sp = bytes;
+    stack.ss_size = size;
+    stack.ss_flags = 0;
+    if (sigaltstack(&stack, NULL) != 0)
+        stop("sigaltstack");
+}
+
+static void catch_signals(void)
+{
+    static uint8_t signal_stack[65536];
+    static const int numbers[] = {SIGSEGV, SIGBUS, SIGILL, SIGFPE, SIGABRT, SIGALRM};
+    struct sigaction action;
+    memset(&action, 0, sizeof action);
+    action.sa_sigaction = on_signal;
+    action.sa_flags = SA_SIGINFO | SA_ONSTACK;
+    sigemptyset(&action.sa_mask);
+    have_signal_stack(signal_stack, sizeof signal_stack);
+    for (size_t i = 0; i < sizeof numbers / sizeof numbers[0]; i++)
+        if (sigaction(numbers[i], &action, NULL) != 0)
+            stop("sigaction");
+}
+
+/* ---- What an answer must look like ---- */
+
+static bool same_answer(planner_answer a, planner_answer b)
+{
+    return a.number == b.number && a.place == b.place && a.length == b.length;
+}
+
+static bool place_fits(planner_answer a)
+{
+    switch (a.number) {
+    case 2:
+        return a.place >= 1 && a.place <= 13;
+    case 3:
+        return a.place >= 1 && a.place <= 12;
+    case 4:
+        return a.place == 2 || a.place == 4 || a.place == 5 || a.place == 7 || a.place == 11;
+    case 7:
+        return a.place <= 12;
+    default:
+        return a.place == 0;
+    }
+}
+
+static void check_answer(planner_answer a)
+{
+    require(a.number <= 8, "a number above 8");
+    require(place_fits(a), "a place that does not fit the number");
+    require((a.length > 0) == (a.number == 0), "a length with a refusal, or no length with a plan");
+    require(a.length <= PLANNER_LONGEST_TEXT, "a length above PLANNER_LONGEST_TEXT");
+}
+
+/* What planner_plan_row has to answer where planner_check_row answered this. */
+static planner_answer with_loan(planner_answer check, size_t text_length)
+{
+    planner_answer too_short = {.number = 8, .place = 0, .length = 0};
+    return check.number == 0 && check.length > text_length ? too_short : check;
+}
+
+static bool names_are_right(void)
+{
+    return now.names.length == strlen(NAMES) && memcmp(now.names.at, NAMES, strlen(NAMES)) == 0;
+}
+
+/* Both functions of the library, with all that can be said of the answers alone. */
+static planner_answer check_row(const uint8_t *names, size_t names_length, const uint8_t *row, size_t row_length)
+{
+    alarm(WATCH_SECONDS);
+    now.check = planner_check_row(names, names_length, row, row_length);
+    check_answer(now.check);
+    require(now.check.number != 8, "number 8 from planner_check_row");
+    require((now.check.number == 1) == !names_are_right(), "number 1 with the right names, or another with wrong ones");
+    return now.check;
+}
+
+static planner_answer plan_row(const uint8_t *names, size_t names_length, const uint8_t *row, size_t row_length,
+                               uint8_t *text, size_t text_length)
+{
+    alarm(WATCH_SECONDS);
+    now.text_length = text_length;
+    now.plan = planner_plan_row(names, names_length, row, row_length, text, text_length);
+    check_answer(now.plan);
+    require(now.plan.length <= text_length, "a length above the lent one");
+    require(same_answer(now.plan, with_loan(now.check, text_length)),
+            "planner_check_row and planner_plan_row do not agree");
+    answered[now.plan.number]++;
+    return now.plan;
+}
+
+/* ---- What a text must look like, and what must be unchanged ---- */
+
+static void check_text(const uint8_t *text, size_t length)
+{
+    size_t header = strlen(HEADER), last;
+    require(length > header && memcmp(text, HEADER, header) == 0, "the text does not begin with the header line");
+    require(text[length - 1] == '\n', "the text does not end with a line feed");
+    for (size_t i = 0; i < length; i++)
+        require(text[i] == '\n' || (text[i] >= 0x20 && text[i] < 0x7f), "a byte in the text that is no text");
+    for (last = length - 1; text[last - 1] != '\n'; last--)
+        continue;
+    require(text[last] == 'S' && text[last + 1] == ' ', "the text's last line is not the sink's");
+}
+
+/*
+ * Lent memory is filled with one of these two beforehand. Where one has a byte the other has that byte's complement, so
+ * that a byte written by mistake differs from at least one of them.
+ */
+static uint8_t *filling[2];
+
+static void make_fillings(size_t size)
+{
+    filling[0] = malloc(size);
+    filling[1] = malloc(size);
+    if (filling[0] == NULL || filling[1] == NULL)
+        stop("malloc");
+    for (size_t i = 0; i < size; i++) {
+        filling[0][i] = (uint8_t)(i * 37 + 11 + i / 256);
+        filling[1][i] = (uint8_t)~filling[0][i];
+    }
+}
+
+/* ---- The generator of noise ---- */
+
+static uint64_t generator;
+
+static uint64_t draw(void)
+{
+    uint64_t z = generator += UINT64_C(0x9e3779b97f4a7c15);
+    z = (z ^ (z >> 30)) * UINT64_C(0xbf58476d1ce4e5b9);
+    z = (z ^ (z >> 27)) * UINT64_C(0x94d049bb133111eb);
+    return z ^ (z >> 31);
+}
+
+static size_t below(size_t limit)
+{
+    return (size_t)(draw() % limit);
+}
+
+static unsigned between(unsigned low, unsigned high)
+{
+    return low + (unsigned)below(high - low + 1);
+}
+
+static uint8_t draw_byte(void)
+{
+    static const char usual[] = "0123456789 ";
+    return below(2) == 0 ? (uint8_t)usual[below(11)] : (uint8_t)below(256);
+}
+
+static void set_input(struct input *input, const void *bytes, size_t length)
+{
+    memcpy(input->bytes, bytes, length);
+    input->length = length;
+}
+
+static void random_bytes(struct input *input, size_t length)
+{
+    for (size_t i = 0; i < length; i++)
+        input->bytes[i] = (uint8_t)below(256);
+    input->length = length;
+}
+
+static void digits_and_spaces(struct input *input, size_t length)
+{
+    for (size_t i = 0; i < length; i++)
+        input->bytes[i] = below(3) == 0 ? ' ' : (uint8_t)('0' + below(10));
+    input->length = length;
+}
+
+/* Bytes from 'from' on are moved to 'to'; the length follows. */
+static void move_tail(struct input *input, size_t from, size_t to)
+{
+    memmove(input->bytes + to, input->bytes + from, input->length - from);
+    input->length = input->length - from + to;
+}
+
+static void mutate(struct input *input)
+{
+    size_t at = below(input->length + 1), end = at + below(input->length - at + 1);
+    switch (below(5)) {
+    case 0: /* a byte changed */
+        if (at < input->length)
+            input->bytes[at] = draw_byte();
+        break;
+    case 1: /* a byte inserted */
+        move_tail(input, at, at + 1);
+        input->bytes[at] = draw_byte();
+        break;
+    case 2: /* a byte removed */
+        if (at < input->length)
+            move_tail(input, at + 1, at);
+        break;
+    case 3: /* cut off */
+        input->length = at;
+        break;
+    default: /* the bytes from at to end doubled */
+        move_tail(input, at, end);
+        break;
+    }
+}
+
+static void mutate_some(struct input *input)
+{
+    for (size_t n = 1 + below(3); n > 0; n--)
+        if (2 * input->length < sizeof input->bytes)
+            mutate(input);
+}
+
+static void write_settings(struct input *row, const unsigned *v)
+{
+    int n = snprintf((char *)row->bytes, sizeof row->bytes, "%u %u %u %u %u %u %u %u %u %u %u %u", v[0], v[1], v[2],
+                     v[3], v[4], v[5], v[6], v[7], v[8], v[9], v[10], v[11]);
+    row->length = (size_t)n;
+}
+
+/* Values within their ranges or at most one step outside: numbers 3 to 7, most of the time. */
+static void any_settings(struct input *row)
+{
+    unsigned v[12];
+    for (size_t i = 0; i < 12; i++)
+        v[i] = between(ranges[i].low, ranges[i].high);
+    if (below(4) == 0) {
+        size_t i = below(12);
+        v[i] = below(2) == 0 || ranges[i].low == 0 ? ranges[i].high + 1 : ranges[i].low - 1;
+    }
+    write_settings(row, v);
+}
+
+/* The smallest e with 2^e routers or more: so much has BO to be above SO (number 6 of document 01). */
+static unsigned orders_apart(unsigned depth, unsigned children)
+{
+    unsigned routers = 1, level = 1, e = 0;
+    for (unsigned i = 0; i < depth && routers < 20000; i++) {
+        level *= children;
+        routers += level;
+    }
+    while ((1u << e) < routers)
+        e++;
+    return e;
+}
+
+/* Values that pass the checks up to number 6, and often number 7 as well. */
+static void likely_settings(struct input *row)
+{
+    unsigned v[12], apart;
+    do {
+        v[2] = below(3) == 0 ? between(0, 12) : between(0, 4);
+        v[3] = v[2] == 0 ? 0 : between(1, below(2) == 0 ? 2 : 7);
+        apart = orders_apart(v[2], v[3]);
+    } while (apart > 14);
+    v[0] = between(apart, 14);
+    v[1] = below(2) == 0 ? v[0] - apart : between(0, v[0] - apart);
+    v[4] = between(0, below(2) == 0 ? 7 - v[3] : 7 - v[3] > 2 ? 2 : 7 - v[3]);
+    v[5] = v[4] == 0 ? 1 : between(0, 1);
+    v[6] = v[3] >= 2 ? between(0, v[2]) : 0;
+    v[7] = between(1, 255);
+    v[8] = below(4) == 0 ? between(1, 4095) : between(1, 4);
+    v[9] = below(2) == 0 ? between(5, 20) : between(5, 126);
+    v[10] = v[9] > 5 ? between(1, 127 - v[9]) : between(1, 122);
+    v[11] = between(0, 1);
+    write_settings(row, v);
+}
+
+/* The file, and the line of it around some byte: further rows to start from. */
+static uint8_t file_bytes[LONGEST_FILE + 1];
+static size_t file_length;
+
+static void line_of_file(struct input *row)
+{
+    size_t start, end;
+    row->length = 0;
+    if (file_length == 0)
+        return;
+    start = end = below(file_length);
+    while (start > 0 && file_bytes[start - 1] != '\n')
+        start--;
+    while (end < file_length && end < start + LONGEST_NOISE / 2 && file_bytes[end] != '\n')
+        end++;
+    if (end > start)
+        set_input(row, file_bytes + start, end - start);
+}
+
+static void good_row(struct input *row)
+{
+    if (below(4) == 0)
+        line_of_file(row);
+    else
+        likely_settings(row);
+}
+
+/* Long rows: a good one with much behind it, one that repeats itself, or nothing but noise. */
+static void long_row(struct input *row)
+{
+    size_t length = LONGEST_NOISE / 2 + below(LONGEST_NOISE / 2), kind = below(4);
+    good_row(row);
+    if (kind == 0) {
+        digits_and_spaces(row, length);
+    } else if (kind == 1) {
+        random_bytes(row, length);
+    } else if (kind == 2) {
+        for (; row->length < length; row->length++)
+            row->bytes[row->length] = ' ';
+    } else {
+        size_t first = row->length;
+        row->bytes[first] = below(2) == 0 ? ' ' : '0';
+        for (row->length = first + 1; row->length < length; row->length++)
+            row->bytes[row->length] = row->bytes[row->length - first - 1];
+    }
+}
+
+static void noise_row(struct input *row)
+{
+    switch (below(16)) {
+    case 0:
+        random_bytes(row, below(below(2) == 0 ? 8 : 200));
+        break;
+    case 1:
+        digits_and_spaces(row, below(80));
+        break;
+    case 2:
+        long_row(row);
+        break;
+    case 3:
+    case 4:
+    case 5:
+        any_settings(row);
+        break;
+    case 6:
+    case 7:
+    case 8:
+    case 9:
+        good_row(row);
+        mutate_some(row);
+        break;
+    default:
+        good_row(row);
+        break;
+    }
+}
+
+static void noise_names(struct input *names)
+{
+    size_t kind = below(32);
+    set_input(names, NAMES, strlen(NAMES));
+    if (kind == 0)
+        names->length = 0;
+    else if (kind == 1)
+        random_bytes(names, below(100));
+    else if (kind <= 4)
+        mutate_some(names);
+}
+
+/* ---- A call between guard pages, made twice ---- */
+
+static struct input names_input, row_input;
+
+/* What a call gave. */
+struct outcome {
+    planner_answer check, plan;
+    uint8_t text[PLANNER_LONGEST_TEXT];
+};
+
+/* Copies the input to its region and takes away the right to write there. */
+static const uint8_t *hand_over(const struct region *region, const struct input *input, bool in_front)
+{
+    uint8_t *at = spot(region, input->length, in_front);
+    protect(region, PROT_READ | PROT_WRITE);
+    memcpy(at, input->bytes, input->length);
+    protect(region, PROT_READ);
+    return at;
+}
+
+/* The whole region has its filling but for the text: nothing was written before the text nor behind it. */
+static void check_rest(const uint8_t *text, size_t length, const uint8_t *fill)
+{
+    size_t before = (size_t)(text - text_region.bytes), behind = before + length;
+    require(memcmp(text_region.bytes, fill, before) == 0, "a byte before the lent text was changed");
+    require(memcmp(text_region.bytes + behind, fill + behind, text_region.size - behind) == 0,
+            length > 0 ? "a byte behind the text was changed" : "a byte was changed although the row was refused");
+}
+
+/* One call. Each of the lowest three bits of sides says of names, row and text whether it lies in front. */
+static void call_between_guards(unsigned sides, const uint8_t *fill, size_t text_length, struct outcome *outcome)
+{
+    const uint8_t *names = hand_over(&names_region, &names_input, (sides & 1) != 0);
+    const uint8_t *row = hand_over(&row_region, &row_input, (sides & 2) != 0);
+    uint8_t *text = spot(&text_region, text_length, (sides & 4) != 0);
+    memcpy(text_region.bytes, fill, text_region.size);
+    outcome->check = check_row(names, names_input.length, row, row_input.length);
+    outcome->plan = plan_row(names, names_input.length, row, row_input.length, text, text_length);
+    check_rest(text, (size_t)outcome->plan.length, fill);
+    if (outcome->plan.number == 0)
+        check_text(text, (size_t)outcome->plan.length);
+    memcpy(outcome->text, text, (size_t)outcome->plan.length);
+    require(memcmp(names, names_input.bytes, names_input.length) == 0, "the names were changed");
+    require(memcmp(row, row_input.bytes, row_input.length) == 0, "the row was changed");
+}
+
+/* The same call twice: the second time at the other guard pages, and with the other filling. */
+static void call_twice(unsigned sides, size_t text_length)
+{
+    static struct outcome first, second;
+    now.names = (struct slice){names_input.bytes, names_input.length};
+    now.row = (struct slice){row_input.bytes, row_input.length};
+    now.text_length = text_length;
+    call_between_guards(sides, filling[0], text_length, &first);
+    call_between_guards(sides ^ 7, filling[1], text_length, &second);
+    require(same_answer(first.check, second.check), "planner_check_row answered the same call in two ways");
+    require(same_answer(first.plan, second.plan), "planner_plan_row answered the same call in two ways");
+    require(memcmp(first.text, second.text, (size_t)first.plan.length) == 0, "the same call gave two texts");
+}
+
+/* ---- Part 1: the rows of the file ---- */
+
+static uint8_t first_text[PLANNER_LONGEST_TEXT];
+
+/* Lends exactly so many bytes, allocated for this one call; the text is also put to first_text where it is planned. */
+static void lend(struct slice names, struct slice row, size_t length, planner_answer expected)
+{
+    uint8_t *text = malloc(length);
+    if (text == NULL && length > 0)
+        stop("malloc");
+    if (length > 0)
+        memcpy(text, filling[0], length);
+    plan_row(names.at, names.length, row.at, row.length, text, length);
+    require(same_answer(now.plan, expected), "not the answer that was expected");
+    if (now.plan.number == 0) {
+        check_text(text, (size_t)now.plan.length);
+        memcpy(first_text, text, (size_t)now.plan.length);
+    }
+    for (size_t i = (size_t)now.plan.length; i < length; i++)
+        require(text[i] == filling[0][i], "a byte that is not of the text was changed");
+    free(text);
+}
+
+/* A planned row: exactly the text's length, one byte less, some more. The text is printed. */
+static void planned_row(struct slice names, struct slice row, planner_answer planned)
+{
+    static uint8_t printed[PLANNER_LONGEST_TEXT];
+    size_t length = (size_t)planned.length;
+    planner_answer too_short = {.number = 8, .place = 0, .length = 0};
+    lend(names, row, length, planned);
+    memcpy(printed, first_text, length);
+    fwrite(printed, 1, length, stdout);
+    lend(names, row, length - 1, too_short);
+    lend(names, row, length + 100, planned);
+    require(memcmp(printed, first_text, length) == 0, "a longer buffer gave another text");
+}
+
+static void row_of_file(struct slice names, struct slice row)
+{
+    planner_answer a;
+    now.call++;
+    now.names = names;
+    now.row = row;
+    a = check_row(names.at, names.length, row.at, row.length);
+    if (a.number == 0) {
+        planned_row(names, row, a);
+    } else {
+        printf("R %" PRIu32 " %" PRIu32 "\n", a.number, a.place);
+        lend(names, row, PLANNER_LONGEST_TEXT, a);
+        lend(names, row, 0, a);
+    }
+    set_input(&names_input, names.at, names.length);
+    set_input(&row_input, row.at, row.length);
+    for (unsigned sides = 0; sides < 8; sides++) {
+        call_twice(sides, (size_t)a.length);
+        call_twice(sides, (size_t)(a.length > 0 ? a.length - 1 : 1));
+        call_twice(sides, LONGEST_LOAN);
+    }
+}
+
+/* The line that starts there, without its line feed. */
+static struct slice line_at(size_t start)
+{
+    const uint8_t *feed = memchr(file_bytes + start, '\n', file_length - start);
+    size_t end = feed != NULL ? (size_t)(feed - file_bytes) : file_length;
+    return (struct slice){file_bytes + start, end - start};
+}
+
+/* Document 01: after number 1 or 9 one line is all; an empty rest after a line feed is no row. */
+static void rows_of_file(void)
+{
+    struct slice names = line_at(0), row;
+    now.part = "1, rows of the file";
+    now.names = names;
+    if (file_length > LONGEST_FILE) {
+        puts("R 9 0");
+    } else if (check_row(names.at, names.length, NULL, 0).number == 1) {
+        puts("R 1 0");
+    } else {
+        for (size_t at = names.length + 1; at < file_length; at += row.length + 1) {
+            row = line_at(at);
+            row_of_file(names, row);
+        }
+    }
+    if (fflush(stdout) != 0)
+        stop("standard output");
+}
+
+/* ---- Part 2: noise ---- */
+
+/* Any length; or, as often, none or one about the text's own, where a mistake by one shows. */
+static size_t noise_length(void)
+{
+    planner_answer a;
+    size_t kind = below(8);
+    if (kind < 4)
+        return below(LONGEST_LOAN + 1);
+    if (kind == 4)
+        return 0;
+    a = planner_check_row(names_input.bytes, names_input.length, row_input.bytes, row_input.length);
+    if (a.number != 0 || a.length > LONGEST_LOAN)
+        return below(LONGEST_LOAN + 1);
+    return (size_t)(kind == 5 ? a.length : kind == 6 ? a.length - 1 : a.length + below(4));
+}
+
+static void noise(uint64_t calls)
+{
+    now.part = "2, noise";
+    for (now.call = 1; now.call <= calls; now.call++) {
+        noise_names(&names_input);
+        noise_row(&row_input);
+        now.names = (struct slice){names_input.bytes, names_input.length};
+        now.row = (struct slice){row_input.bytes, row_input.length};
+        call_twice((unsigned)below(8), noise_length());
+    }
+    for (size_t number = 0; number <= 8 && calls >= 10000; number++)
+        require(answered[number] > 0, "a number that so much noise should have met was never answered");
+}
+
+/* ---- Part 3: nothing handed over ---- */
+
+/* A thing handed over as it should be (0); or with length 0 as NULL (1) or as a pointer that may not be used (2). */
+static struct slice thing(unsigned way, const void *bytes, size_t length)
+{
+    struct slice given = {bytes, length}, null = {NULL, 0}, guard = {text_region.bytes + text_region.size, 0};
+    return way == 0 ? given : way == 1 ? null : guard;
+}
+
+/* No names: 1. A row without values: 2, place 1. No room for a text: 8. The first that applies. */
+static planner_answer answer_to_nothing(unsigned names, unsigned row, unsigned text)
+{
+    planner_answer a = {0, 0, now.check.length};
+    if (names != 0)
+        a = (planner_answer){1, 0, 0};
+    else if (row != 0)
+        a = (planner_answer){2, 1, 0};
+    else if (text != 0)
+        a = (planner_answer){8, 0, 0};
+    return a;
+}
+
+static void hand_over_nothing(unsigned names_way, unsigned row_way, unsigned text_way)
+{
+    static const char example[] = "8 4 1 2 1 0 0 1 1 19 7 0";
+    static uint8_t text[PLANNER_LONGEST_TEXT];
+    struct slice lent = thing(text_way, text, sizeof text);
+    now.call++;
+    now.names = thing(names_way, NAMES, strlen(NAMES));
+    now.row = thing(row_way, example, strlen(example));
+    memcpy(text, filling[0], sizeof text);
+    check_row(now.names.at, now.names.length, now.row.at, now.row.length);
+    require(same_answer(now.check, answer_to_nothing(names_way, row_way, 0)), "not the answer that planner.h names");
+    plan_row(now.names.at, now.names.length, now.row.at, now.row.length, (uint8_t *)(uintptr_t)lent.at, lent.length);
+    require(same_answer(now.plan, answer_to_nothing(names_way, row_way, text_way)),
+            "not the answer that planner.h names");
+    require(memcmp(text + now.plan.length, filling[0] + now.plan.length, sizeof text - now.plan.length) == 0,
+            "a byte that is not of the text was changed");
+}
+
+static void nothing_handed_over(void)
+{
+    now.part = "3, NULL and pointers that may not be used, beside length 0";
+    now.call = 0;
+    for (unsigned way = 0; way < 27; way++)
+        hand_over_nothing(way % 3, way / 3 % 3, way / 9);
+}
+
+/* ---- Part 4: little stack ---- */
+
+/*
+ * planner.h: 16 KB of stack are free at the call. A thread whose whole stack has 16 KB cannot be had with the address
+ * sanitizer: it raises any smaller size to 128 KB and what it needs itself, without saying so. So the thread gets more,
+ * and once it runs, all of its stack that is more than 16 KB below its own frame is made inaccessible (the fence).
+ * Only whole pages can be, so up to one page more than 16 KB stays free. Therefore the free part is filled beforehand,
+ * and afterwards the lowest changed byte says how much was used: it must be 16 KB or less.
+ */
+#define FREE_STACK 16384
+#define WHOLE_STACK (32 * FREE_STACK)
+#define STACK_FILL 0xa5
+#define KEPT_STACK 1024 /* not filled: the filling function's own frame lies there */
+#define DEEP_ROWS 3
+#define DEEP_CALLS 6000
+
+static struct deep_row {
+    char row[64];
+    planner_answer expected;
+    uint8_t text[PLANNER_LONGEST_TEXT];
+} deep_rows[DEEP_ROWS];
+
+static uint8_t deep_text[PLANNER_LONGEST_TEXT];
+static const char *deep_failure;
+static size_t deep_free, deep_used;
+
+static planner_answer check_deep_row(const struct deep_row *deep)
+{
+    now.names = (struct slice){(const uint8_t *)NAMES, strlen(NAMES)};
+    now.row = (struct slice){(const uint8_t *)deep->row, strlen(deep->row)};
+    return check_row(now.names.at, now.names.length, now.row.at, now.row.length);
+}
+
+/*
+ * With NR 2 the rates about double with each depth, and number 7 ends it. The least load goes deepest: one frame an
+ * interval from each router, no end nodes, the shortest frames.
+ */
+static void find_deepest(struct deep_row *deep)
+{
+    for (int depth = 12; depth > 0; depth--)
+        for (int sink = depth; sink > 0; sink--)
+            for (int order = 0; order < 14; order++) {
+                snprintf(deep->row, sizeof deep->row, "14 %d %d 2 0 1 %d 255 1 5 1 0", order, depth, sink);
+                if (check_deep_row(deep).number == 0)
+                    return;
+            }
+    fail("no row with a sink below the root is planned");
+}
+
+/* The same call with all the stack of the main thread says what to expect. */
+static void expect_of(struct deep_row *deep, uint32_t number)
+{
+    require(check_deep_row(deep).number == number, "a deep row is not answered as document 01 has it");
+    deep->expected =
+        plan_row(now.names.at, now.names.length, now.row.at, now.row.length, deep->text, sizeof deep->text);
+}
+
+static void make_deep_rows(void)
+{
+    snprintf(deep_rows[0].row, sizeof deep_rows[0].row, "14 10 12 1 6 1 0 255 3 5 1 0");
+    find_deepest(&deep_rows[1]);
+    snprintf(deep_rows[2].row, sizeof deep_rows[2].row, "14 1 12 2 0 1 12 255 1 5 1 0");
+    expect_of(&deep_rows[0], 0);
+    expect_of(&deep_rows[1], 0);
+    expect_of(&deep_rows[2], 7);
+}
+
+/* Answers the lowest byte that is free. */
+static uint8_t *raise_fence(const uint8_t *frame)
+{
+    size_t above = (size_t)(stack_region.bytes + stack_region.size - frame);
+    size_t fenced = (stack_region.size - above - FREE_STACK) / page * page;
+    if (above + FREE_STACK > stack_region.size || mprotect(stack_region.bytes, fenced, PROT_NONE) != 0)
+        stop("the thread's stack");
+    return stack_region.bytes + fenced;
+}
+
+/* These two touch the stack below the frames in use, and so call nothing. */
+static void fill_stack(volatile uint8_t *low, const volatile uint8_t *high)
+{
+    while (low < high)
+        *low++ = STACK_FILL;
+}
+
+static const volatile uint8_t *lowest_changed(const volatile uint8_t *low, const volatile uint8_t *high)
+{
+    while (low < high && *low == STACK_FILL)
+        low++;
+    return low;
+}
+
+static void call_deep(const struct deep_row *deep)
+{
+    planner_answer a;
+    now.row = (struct slice){(const uint8_t *)deep->row, strlen(deep->row)};
+    a = planner_plan_row(now.names.at, now.names.length, now.row.at, now.row.length, deep_text, sizeof deep_text);
+    now.plan = a;
+    if (!same_answer(a, deep->expected) || memcmp(deep_text, deep->text, (size_t)a.length) != 0)
+        deep_failure = "with little stack the answer or the text is another";
+    else
+        answered[a.number]++;
+}
+
+static void *deep_calls(void *unused)
+{
+    uint8_t *frame = __builtin_frame_address(0), *low = raise_fence(frame);
+    fill_stack(low, frame - KEPT_STACK);
+    for (now.call = 1; now.call <= DEEP_CALLS && deep_failure == NULL; now.call++)
+        call_deep(&deep_rows[now.call % DEEP_ROWS]);
+    deep_free = (size_t)(frame - low);
+    deep_used = (size_t)(frame - lowest_changed(low, frame));
+    protect(&stack_region, PROT_READ | PROT_WRITE);
+    return unused;
+}
+
+/* The thread needs a stack for signals too, where the sanitizers do not bring one. */
+static void *deep_thread(void *unused)
+{
+    static uint8_t signal_stack[65536];
+    have_signal_stack(signal_stack, sizeof signal_stack);
+    return deep_calls(unused);
+}
+
+static void little_stack(void)
+{
+    pthread_t thread;
+    pthread_attr_t how;
+    now.part = "4, little stack";
+    now.call = 0;
+    make_deep_rows();
+    make_region(&stack_region, WHOLE_STACK);
+    alarm(WATCH_SECONDS);
+    if (pthread_attr_init(&how) != 0 || pthread_attr_setstack(&how, stack_region.bytes, stack_region.size) != 0 ||
+        pthread_create(&thread, &how, deep_thread, NULL) != 0 || pthread_join(thread, NULL) != 0)
+        stop("thread");
+    pthread_attr_destroy(&how);
+    if (deep_failure != NULL)
+        fail(deep_failure);
+    require(deep_used <= FREE_STACK, "more than 16 KB of stack were used");
+    fprintf(stderr, "stack: %d calls in a thread with a stack of %d bytes, all but %zu below its frame fenced off\n",
+            DEEP_CALLS, WHOLE_STACK, deep_free);
+    fprintf(stderr, "stack: %zu bytes were used, %d are allowed; the rows:\n", deep_used, FREE_STACK);
+    for (size_t i = 0; i < DEEP_ROWS; i++)
+        fprintf(stderr, "stack:   %s: number %" PRIu32 "\n", deep_rows[i].row, deep_rows[i].expected.number);
+}
+
+/* ---- All of it ---- */
+
+static uint64_t number_from(const char *text)
+{
+    char *end;
+    uint64_t number = strtoull(text, &end, 10);
+    if (*text < '0' || *text > '9' || *end != '\0') {
+        fprintf(stderr, "%s: not a number\n", text);
+        exit(2);
+    }
+    return number;
+}
+
+static void read_file(const char *name)
+{
+    FILE *file = fopen(name, "rb");
+    if (file == NULL)
+        stop(name);
+    file_length = fread(file_bytes, 1, sizeof file_bytes, file);
+    if (ferror(file))
+        stop(name);
+    fclose(file);
+}
+
+static void summary(void)
+{
+    uint64_t calls = 0;
+    for (size_t number = 0; number <= 8; number++)
+        calls += answered[number];
+    fprintf(stderr, "summary: seed %" PRIu64 ", calls %" PRIu64 ", planned %" PRIu64 ", refused by number", seed, calls,
+            answered[0]);
+    for (size_t number = 1; number <= 8; number++)
+        fprintf(stderr, "%s %zu: %" PRIu64, number > 1 ? "," : "", number, answered[number]);
+    fprintf(stderr, "\n");
+}
+
+int main(int argc, char **argv)
+{
+    uint64_t calls;
+    if (argc != 4) {
+        fprintf(stderr, "usage: harness ROWS.TXT SEED CALLS\n");
+        return 2;
+    }
+    seed = number_from(argv[2]);
+    calls = number_from(argv[3]);
+    generator = seed;
+    page = (size_t)sysconf(_SC_PAGESIZE);
+    read_file(argv[1]);
+    fprintf(stderr, "seed %" PRIu64 ", %" PRIu64 " calls of noise\n", seed, calls);
+    make_region(&names_region, LONGEST_FILE);
+    make_region(&row_region, LONGEST_FILE);
+    make_region(&text_region, LONGEST_LOAN);
+    make_fillings(text_region.size);
+    catch_signals();
+    rows_of_file();
+    noise(calls);
+    nothing_handed_over();
+    little_stack();
+    summary();
+    return 0;
+}

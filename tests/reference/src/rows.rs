@@ -1,0 +1,174 @@
+//! Rows, name lines and whole inputs for tests, drawn at random from a seed. They are of all kinds that document 01 can
+//! answer: plans of every shape, every refusal at every place, values on both sides of each limit, and damaged text.
+
+mod broken;
+mod inputs;
+mod planned;
+mod reach;
+mod refused;
+mod rng;
+
+pub use inputs::{names, text};
+pub use reach::{plannable_shapes, reachable_refusals, Seen};
+pub use rng::Rng;
+
+use crate::settings::{settle, Values, COLUMNS};
+use crate::tree::reserve;
+
+// Columns by name, as indexes of `Values`.
+const BO: usize = 0;
+const SO: usize = 1;
+const H: usize = 2;
+const NR: usize = 3;
+const NE: usize = 4;
+const OWN: usize = 5;
+const SINK: usize = 6;
+const BURST: usize = 7;
+const RATE: usize = 8;
+const HEAD: usize = 9;
+const DATA: usize = 10;
+
+/// The largest BO and SO.
+const MOST_ORDER: u64 = 14;
+
+/// A line of values without its LF, or bytes that are none.
+pub fn row(rng: &mut Rng) -> Vec<u8> {
+    match rng.below(100) {
+        0..=82 => written(&values(rng)),
+        83..=96 => {
+            let whole = written(&values(rng));
+            broken::broken(rng, whole)
+        }
+        _ => broken::noise(rng),
+    }
+}
+
+/// Values that can all be read.
+fn values(rng: &mut Rng) -> Values {
+    match rng.below(83) {
+        0..=34 => planned::planned(rng),
+        35..=49 => planned::at_slot_edge(rng),
+        50..=53 => refused::overfull(rng),
+        54..=61 => refused::out_of_range(rng),
+        62..=69 => refused::at_odds(rng),
+        70..=73 => refused::at_reservation_edge(rng),
+        74..=78 => refused::at_router_edge(rng),
+        _ => refused::anything_in_range(rng),
+    }
+}
+
+fn written(values: &Values) -> Vec<u8> {
+    values.map(|value| value.to_string()).join(" ").into_bytes()
+}
+
+/// These values are planned.
+fn plans(values: &Values) -> bool {
+    settle(values).is_ok_and(|settings| reserve(&settings).is_ok())
+}
+
+/// The smallest BO − SO that has room for the routers of a full tree, at least one past the largest possible
+/// difference if there is none.
+fn order_gap(height: u64, routers: u64) -> u64 {
+    let count: u64 = (0..=height as u32).map(|depth| routers.pow(depth)).sum();
+    u64::from(count.next_power_of_two().trailing_zeros())
+}
+
+/// A burst, often at an end of its range.
+fn draw_burst(rng: &mut Rng) -> u64 {
+    match rng.below(6) {
+        0 => 1,
+        1 => 2,
+        2 => 254,
+        3 => 255,
+        _ => rng.range(1, 255),
+    }
+}
+
+/// A frame of this many octets (6 to 248), cut anywhere into HEAD and DATA.
+fn set_octets(rng: &mut Rng, values: &mut Values, octets: u64) {
+    values[HEAD] = rng.range(5.max(octets.saturating_sub(122)), 126.min(octets - 1));
+    values[DATA] = octets - values[HEAD];
+}
+
+#[cfg(test)]
+mod tests {
+    use super::*;
+    use crate::tree::fullest;
+
+    #[test]
+    fn written_values() {
+        assert_eq!(written(&[8, 4, 1, 2, 1, 0, 0, 1, 1, 19, 7, 0]), b"8 4 1 2 1 0 0 1 1 19 7 0");
+    }
+
+    #[test]
+    fn gaps_of_full_trees() {
+        assert_eq!(
+            [(0, 0), (1, 1), (1, 2), (3, 1), (4, 1), (8, 2)].map(|(h, nr)| order_gap(h, nr)),
+            [0, 1, 2, 2, 3, 9]
+        );
+        assert!(order_gap(12, 7) > MOST_ORDER);
+    }
+
+    #[test]
+    fn the_same_seed_draws_the_same() {
+        let drawn = |seed| {
+            let mut rng = Rng::new(seed);
+            (names(&mut rng), row(&mut rng), text(&mut rng))
+        };
+        assert_eq!(drawn(5), drawn(5));
+        assert_ne!(drawn(5), drawn(6));
+    }
+
+    #[test]
+    fn everything_reachable_is_drawn() {
+        let mut rng = Rng::new(1);
+        let mut seen = Seen::default();
+        for _ in 0..200_000 {
+            seen.note(&crate::plan_row(&row(&mut rng)));
+        }
+        assert_eq!(seen.missing(), Vec::<String>::new());
+        assert_eq!(seen.unexpected(), Vec::<String>::new());
+    }
+
+    /// Both sides of every limit, and both parts of condition 4 at places 4 and 7.
+    #[test]
+    fn both_sides_of_every_limit_are_drawn() {
+        let mut rng = Rng::new(2);
+        let mut counts = [0; 14];
+        for _ in 0..50_000 {
+            let drawn = values(&mut rng);
+            for (count, met) in counts.iter_mut().zip(limits(&drawn)) {
+                *count += u32::from(met);
+            }
+        }
+        assert!(counts.iter().all(|&count| count >= 50), "{counts:?}");
+    }
+
+    fn limits(drawn: &Values) -> [bool; 14] {
+        let settled = settle(drawn);
+        let refused = |place| matches!(&settled, Err(refusal) if (refusal.number, refusal.place) == (4, place));
+        let reserved = settled.as_ref().ok().and_then(|settings| reserve(settings).err());
+        let reached = settled.is_ok() && reserved.is_none_or(|refusal| refusal.number == 7);
+        let spare = settled.as_ref().ok().filter(|_| reached).map(fullest);
+        let spare = spare.map(|(used, reservable)| used as i64 - reservable as i64);
+        let tree = settled.is_ok() && drawn[NE] + drawn[NR] <= 7;
+        let gap = if tree { drawn[BO] - drawn[SO] } else { 0 };
+        let line_tree = tree && drawn[NR] == 1;
+        [
+            spare == Some(0),
+            spare == Some(1),
+            line_tree && drawn[H] + 1 == 1 << gap,
+            line_tree && drawn[H] == 1 << gap,
+            settled.is_ok() && drawn[NE] + drawn[NR] == 7,
+            settled.is_ok() && drawn[NE] + drawn[NR] == 8,
+            settled.is_ok() && drawn[HEAD] + drawn[DATA] == 127,
+            refused(11) && drawn[HEAD] + drawn[DATA] == 128,
+            refused(4) && drawn[NR] == 0,
+            refused(4) && drawn[H] == 0,
+            refused(7) && drawn[SINK] > drawn[H],
+            refused(7) && drawn[SINK] <= drawn[H],
+            reached && drawn[BURST] == 255,
+            reached && drawn[RATE] == 4095,
+        ]
+    }
+}

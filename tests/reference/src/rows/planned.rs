@@ -1,0 +1,175 @@
+//! Values that are planned, of every shape that can be, and values at the edge of condition 7.
+
+use super::*;
+
+/// So many draws are made for a planned tree of the wished shape before the roomiest one is taken.
+const TRIES: usize = 30;
+
+/// Values that are planned.
+pub fn planned(rng: &mut Rng) -> Values {
+    let mut values = slow(rng);
+    let fastest = fastest(&values);
+    values[RATE] = match rng.below(4) {
+        0 => 1,
+        1 => fastest,
+        _ => rng.range(1, fastest),
+    };
+    values
+}
+
+/// Values whose slots just suffice, or fall short for the first time, as RATE or as M grows.
+pub fn at_slot_edge(rng: &mut Rng) -> Values {
+    let mut values = slow(rng);
+    let over = rng.below(2);
+    if rng.one_in(3) {
+        let octets = 127.min(longest(&values) + over);
+        set_octets(rng, &mut values, octets);
+    } else {
+        values[RATE] = 4095.min(fastest(&values) + over);
+    }
+    values
+}
+
+/// Values that are planned, with RATE 1.
+fn slow(rng: &mut Rng) -> Values {
+    let (height, sink) = rng.pick(&plannable_shapes());
+    for _ in 0..TRIES {
+        let values = attempt(rng, height, sink);
+        if plans(&values) {
+            return values;
+        }
+    }
+    roomiest(rng, height, sink)
+}
+
+/// A tree of this shape that keeps every condition but perhaps 7. Small trees and large superframes are preferred, as
+/// only they can be planned where H is large.
+fn attempt(rng: &mut Rng, height: u64, sink: u64) -> Values {
+    let nr = draw_routers(rng, height, sink);
+    let ne = smaller_of_two(rng, 0, 7 - nr);
+    let own = if ne == 0 { 1 } else { rng.below(2) };
+    let gap = order_gap(height, nr);
+    let so = if rng.one_in(2) { MOST_ORDER - gap } else { rng.range(0, MOST_ORDER - gap) };
+    let bo = if rng.one_in(2) { so + gap } else { rng.range(so + gap, MOST_ORDER) };
+    let burst = draw_burst(rng);
+    let mut values = [bo, so, height, nr, ne, own, sink, burst, 1, 0, 0, rng.below(2)];
+    let octets = draw_octets(rng);
+    set_octets(rng, &mut values, octets);
+    values
+}
+
+/// NR, small enough for condition 6 to be kept with the right BO and SO.
+fn draw_routers(rng: &mut Rng, height: u64, sink: u64) -> u64 {
+    if height == 0 {
+        return 0;
+    }
+    let mut nr = smaller_of_two(rng, fewest_routers(height, sink), 7);
+    while order_gap(height, nr) > MOST_ORDER {
+        nr -= 1;
+    }
+    nr
+}
+
+/// The smallest NR that condition 4 lets pass.
+fn fewest_routers(height: u64, sink: u64) -> u64 {
+    match (height, sink) {
+        (0, _) => 0,
+        (_, 0) => 1,
+        _ => 2,
+    }
+}
+
+fn smaller_of_two(rng: &mut Rng, low: u64, high: u64) -> u64 {
+    rng.range(low, high).min(rng.range(low, high))
+}
+
+/// M, often at an end of its range or on either side of the step in X.
+fn draw_octets(rng: &mut Rng) -> u64 {
+    match rng.below(4) {
+        0 => rng.pick(&[6, 7, 17, 18, 19, 20, 126, 127]),
+        1 => rng.range(6, 18),
+        _ => rng.range(6, 127),
+    }
+}
+
+/// The tree of this shape that needs least and has most: if this one is not planned, none of its shape is.
+fn roomiest(rng: &mut Rng, height: u64, sink: u64) -> Values {
+    let nr = fewest_routers(height, sink);
+    let so = MOST_ORDER - order_gap(height, nr);
+    [MOST_ORDER, so, height, nr, 0, 1, sink, draw_burst(rng), 1, 5, 1, 0]
+}
+
+/// The largest RATE with which these values, which are planned with RATE 1, are planned.
+fn fastest(values: &Values) -> u64 {
+    let with = |rate| {
+        let mut values = *values;
+        values[RATE] = rate;
+        values
+    };
+    largest(values[RATE], 4095, |rate| plans(&with(rate)))
+}
+
+/// The largest M with which these values, which are planned, are planned.
+fn longest(values: &Values) -> u64 {
+    let with = |octets: u64| {
+        let mut values = *values;
+        values[HEAD] = 126.min(octets - 1);
+        values[DATA] = octets - values[HEAD];
+        values
+    };
+    largest(values[HEAD] + values[DATA], 127, |octets| plans(&with(octets)))
+}
+
+/// The largest number from low to high that holds, where low holds and what holds ends once.
+fn largest(mut low: u64, mut high: u64, holds: impl Fn(u64) -> bool) -> u64 {
+    while low < high {
+        let middle = (low + high).div_ceil(2);
+        if holds(middle) {
+            low = middle;
+        } else {
+            high = middle - 1;
+        }
+    }
+    low
+}
+
+#[cfg(test)]
+mod tests {
+    use super::*;
+    use std::collections::BTreeSet;
+
+    #[test]
+    fn planned_values_are_planned() {
+        let mut rng = Rng::new(3);
+        assert!((0..5_000).all(|_| plans(&planned(&mut rng))));
+    }
+
+    /// Every number of routers and of end nodes, with and without sensing routers, and every exchange time.
+    #[test]
+    fn planned_values_are_of_all_kinds() {
+        let mut rng = Rng::new(5);
+        let mut routers = BTreeSet::new();
+        let mut frames = BTreeSet::new();
+        for _ in 0..50_000 {
+            let [_, _, _, nr, ne, own, _, _, _, head, data, ack] = planned(&mut rng);
+            routers.insert((nr, ne, own));
+            frames.insert((head + data, ack));
+        }
+        let pairs = (0..=7).flat_map(|nr| (0..=7 - nr).map(move |ne| (nr, ne)));
+        assert_eq!(routers.len(), pairs.map(|(_, ne)| if ne == 0 { 1 } else { 2 }).sum());
+        assert_eq!(frames.len(), 2 * 122);
+    }
+
+    #[test]
+    fn the_roomiest_of_every_shape_is_planned() {
+        let mut rng = Rng::new(4);
+        assert!(plannable_shapes().into_iter().all(|(height, sink)| plans(&roomiest(&mut rng, height, sink))));
+    }
+
+    #[test]
+    fn largest_that_holds() {
+        assert_eq!(largest(1, 4095, |number| number <= 77), 77);
+        assert_eq!(largest(1, 4095, |_| true), 4095);
+        assert_eq!(largest(1, 4095, |number| number == 1), 1);
+    }
+}

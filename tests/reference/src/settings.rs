@@ -1,0 +1,221 @@
+//! Document 01, "Rows of settings": the values of a row and conditions 2, 3 and 4 of the table.
+
+use crate::Refusal;
+
+/// Values in a row.
+pub const COLUMNS: usize = 12;
+
+/// The values of a row in the order of the name line, before anything is known of their ranges.
+pub type Values = [u64; COLUMNS];
+
+/// Smallest and largest value of each column.
+pub const RANGES: [(u64, u64); COLUMNS] =
+    [(0, 14), (0, 14), (0, 12), (0, 7), (0, 7), (0, 1), (0, 12), (1, 255), (1, 4095), (5, 126), (1, 122), (0, 1)];
+
+/// The place of "text after the last".
+const AFTER_LAST: u32 = 13;
+const LONGEST_VALUE: usize = 4;
+const LONGEST_FRAME: u64 = 127;
+
+/// The settings of a row that keeps conditions 2, 3 and 4.
+pub struct Settings {
+    /// BO.
+    pub beacon_order: u64,
+    /// SO.
+    pub superframe_order: u64,
+    /// H.
+    pub height: usize,
+    /// NR.
+    pub routers: u64,
+    /// NE.
+    pub end_nodes: u64,
+    /// OWN, 0 or 1.
+    pub own: u64,
+    /// SINK.
+    pub sink: usize,
+    /// BURST, in frames.
+    pub burst: u64,
+    /// RATE.
+    pub rate: u64,
+    /// M = HEAD + DATA.
+    pub octets: u64,
+    /// ACK is 1.
+    pub acknowledged: bool,
+}
+
+/// Reads a line of values, given without its LF.
+pub fn read(row: &[u8]) -> Result<Settings, Refusal> {
+    settle(&read_values(row)?)
+}
+
+/// Conditions 3 and 4 for values that could be read.
+pub fn settle(values: &Values) -> Result<Settings, Refusal> {
+    check_ranges(values)?;
+    check_odds(values)?;
+    let [bo, so, h, nr, ne, own, sink, burst, rate, head, data, ack] = *values;
+    Ok(Settings {
+        beacon_order: bo,
+        superframe_order: so,
+        height: h as usize,
+        routers: nr,
+        end_nodes: ne,
+        own,
+        sink: sink as usize,
+        burst,
+        rate,
+        octets: head + data,
+        acknowledged: ack == 1,
+    })
+}
+
+/// Condition 2. Document 01 says "one space between": the row is cut at every single space, so that two spaces, or one
+/// in front, leave an empty and hence unreadable value. Document 01 does not say whether other text right behind the
+/// digits of the last value, as in `0x`, spoils that value (place 12) or is "text after the last" (place 13); as both
+/// words fit and "the lowest column answers", it is read as the former. "Text after the last" then begins with a space,
+/// and such a space alone is already text.
+fn read_values(row: &[u8]) -> Result<Values, Refusal> {
+    let mut pieces = row.split(|&byte| byte == b' ');
+    let mut values = [0; COLUMNS];
+    for (column, value) in (1..).zip(&mut values) {
+        let refusal = Refusal { number: 2, place: column };
+        *value = pieces.next().and_then(read_value).ok_or(refusal)?;
+    }
+    match pieces.next() {
+        None => Ok(values),
+        Some(_) => Err(Refusal { number: 2, place: AFTER_LAST }),
+    }
+}
+
+/// A value: 1 to 4 digits, no leading zero except 0 itself.
+fn read_value(piece: &[u8]) -> Option<u64> {
+    let leading_zero = piece.len() > 1 && piece[0] == b'0';
+    if piece.is_empty() || piece.len() > LONGEST_VALUE || leading_zero {
+        return None;
+    }
+    piece.iter().try_fold(0, |value, byte| byte.is_ascii_digit().then(|| value * 10 + u64::from(byte - b'0')))
+}
+
+/// Condition 3, the lowest column first.
+fn check_ranges(values: &Values) -> Result<(), Refusal> {
+    for ((place, value), (low, high)) in (1..).zip(values).zip(RANGES) {
+        if *value < low || *value > high {
+            return Err(Refusal { number: 3, place });
+        }
+    }
+    Ok(())
+}
+
+/// Condition 4, in the order in which the table names its parts.
+fn check_odds(values: &Values) -> Result<(), Refusal> {
+    let [bo, so, h, nr, ne, own, sink, _, _, head, data, _] = *values;
+    let parts = [
+        (so > bo, 2),
+        ((nr == 0) != (h == 0), 4),
+        (ne == 0 && own == 0, 5),
+        (sink > h || (sink > 0 && nr < 2), 7),
+        (head + data > LONGEST_FRAME, 11),
+    ];
+    match parts.iter().find(|(at_odds, _)| *at_odds) {
+        Some(&(_, place)) => Err(Refusal { number: 4, place }),
+        None => Ok(()),
+    }
+}
+
+#[cfg(test)]
+mod tests {
+    use super::*;
+
+    fn refusal(row: &str) -> Option<(u32, u32)> {
+        read(row.as_bytes()).err().map(|refusal| (refusal.number, refusal.place))
+    }
+
+    #[test]
+    fn a_row_is_read() {
+        let settings = read(b"8 4 1 2 3 0 1 255 4095 19 7 1").ok().unwrap();
+        assert_eq!((settings.beacon_order, settings.superframe_order), (8, 4));
+        assert_eq!((settings.height, settings.sink), (1, 1));
+        assert_eq!((settings.routers, settings.end_nodes, settings.own), (2, 3, 0));
+        assert_eq!((settings.burst, settings.rate), (255, 4095));
+        assert_eq!((settings.octets, settings.acknowledged), (26, true));
+    }
+
+    #[test]
+    fn examples_of_the_table() {
+        assert_eq!(refusal("08 4 1 2 1 0 0 1 1 19 7 0"), Some((2, 1)));
+        assert_eq!(refusal("8 4 1 2 1 0 0 0 1 19 7 0"), Some((3, 8)));
+        assert_eq!(refusal("4 8 1 2 1 0 0 1 1 19 7 0"), Some((4, 2)));
+    }
+
+    #[test]
+    fn spaces() {
+        assert_eq!(refusal(" 8 4 1 2 1 0 0 1 1 19 7 0"), Some((2, 1)));
+        assert_eq!(refusal("8  4 1 2 1 0 0 1 1 19 7 0"), Some((2, 2)));
+        assert_eq!(refusal("8 4 1 2 1 0 0 1 1 19 7  0"), Some((2, 12)));
+        assert_eq!(refusal("8 4 1 2 1 0 0 1 1 19 7 0 "), Some((2, 13)));
+        assert_eq!(refusal("8\t4 1 2 1 0 0 1 1 19 7 0"), Some((2, 1)));
+    }
+
+    #[test]
+    fn missing_values() {
+        assert_eq!(refusal(""), Some((2, 1)));
+        assert_eq!(refusal(" "), Some((2, 1)));
+        assert_eq!(refusal("8"), Some((2, 2)));
+        assert_eq!(refusal("8 "), Some((2, 2)));
+        assert_eq!(refusal("8 4 1 2 1 0 0 1 1 19 7"), Some((2, 12)));
+        assert_eq!(refusal("8 4 1 2 1 0 0 1 1 19 7 "), Some((2, 12)));
+    }
+
+    #[test]
+    fn text_after_the_last() {
+        assert_eq!(refusal("8 4 1 2 1 0 0 1 1 19 7 0 0"), Some((2, 13)));
+        assert_eq!(refusal("8 4 1 2 1 0 0 1 1 19 7 0 x y"), Some((2, 13)));
+        assert_eq!(refusal("8 4 1 2 1 0 0 1 1 x 7 0 x"), Some((2, 10)));
+    }
+
+    #[test]
+    fn unreadable_values() {
+        assert_eq!(refusal("8 4 1 2 1 0 0 1 1 19 7 0x"), Some((2, 12)));
+        assert_eq!(refusal("8 4 1 2 1 0 0 1 1 19 7 0\r"), Some((2, 12)));
+        assert_eq!(refusal("8 4 1 2 1 0 0 1 1 19 7\0 0"), Some((2, 11)));
+        assert_eq!(refusal("8 4 1 2 1 0 0 1 12345 19 7 0"), Some((2, 9)));
+        assert_eq!(refusal("8 4 1 2 1 0 0 1 00 19 7 0"), Some((2, 9)));
+        assert_eq!(refusal("8 4 -1 2 1 0 0 1 1 19 7 0"), Some((2, 3)));
+        assert_eq!(refusal("8 4 +1 2 1 0 0 1 1 19 7 0"), Some((2, 3)));
+    }
+
+    #[test]
+    fn unreadable_comes_before_out_of_range() {
+        assert_eq!(refusal("15 4 1 2 1 0 0 1 1 19 7 02"), Some((2, 12)));
+        assert_eq!(refusal("14 15 13 2 1 0 0 1 1 19 7 2"), Some((3, 2)));
+    }
+
+    #[test]
+    fn both_ends_of_every_range() {
+        let row: Values = [8, 4, 1, 2, 1, 0, 0, 1, 1, 19, 7, 0];
+        for (column, (low, high)) in RANGES.into_iter().enumerate() {
+            let at = |value| {
+                let mut values = row;
+                values[column] = value;
+                check_ranges(&values).err().map(|refusal| refusal.place as usize)
+            };
+            assert_eq!((at(low), at(high)), (None, None));
+            assert_eq!(at(high + 1), Some(column + 1));
+            assert!(low == 0 || at(low - 1) == Some(column + 1));
+        }
+    }
+
+    #[test]
+    fn values_at_odds() {
+        assert_eq!(refusal("8 4 1 0 1 0 0 1 1 19 7 0"), Some((4, 4)));
+        assert_eq!(refusal("8 4 0 1 1 0 0 1 1 19 7 0"), Some((4, 4)));
+        assert_eq!(refusal("8 4 1 2 0 0 0 1 1 19 7 0"), Some((4, 5)));
+        assert_eq!(refusal("8 4 1 2 1 0 2 1 1 19 7 0"), Some((4, 7)));
+        assert_eq!(refusal("8 4 1 1 1 0 1 1 1 19 7 0"), Some((4, 7)));
+        assert_eq!(refusal("8 4 1 2 1 0 1 1 1 120 8 0"), Some((4, 11)));
+        assert_eq!(refusal("8 4 1 2 1 0 1 1 1 120 7 0"), None);
+        assert_eq!(refusal("4 8 1 0 0 0 2 1 1 120 8 0"), Some((4, 2)));
+        assert_eq!(refusal("8 4 1 0 0 0 2 1 1 120 8 0"), Some((4, 4)));
+        assert_eq!(refusal("8 4 1 1 0 0 2 1 1 120 8 0"), Some((4, 5)));
+        assert_eq!(refusal("8 4 1 1 1 0 2 1 1 120 8 0"), Some((4, 7)));
+    }
+}

@@ -1,0 +1,196 @@
+//! Document 01, "The printed plan": the text of a plan, the program's whole output, and conditions 1 and 9.
+
+use crate::{plan_row, Kind, Line, Plan, Refusal};
+
+/// The line of names, without its LF.
+pub const NAMES: &str = "BO SO H NR NE OWN SINK BURST RATE HEAD DATA ACK";
+
+/// The most bytes of input that the program takes.
+pub const INPUT_LIMIT: usize = 65_536;
+
+const HEADER: &[u8] = b"KIND DEPTH RATE BURST SLOTS FRAMES LATENCY BUFFER DELAY\n";
+
+/// Condition 1.
+pub fn check_names(names: &[u8]) -> Result<(), Refusal> {
+    if names == NAMES.as_bytes() {
+        Ok(())
+    } else {
+        Err(Refusal { number: 1, place: 0 })
+    }
+}
+
+/// What program `plan` prints for this standard input.
+pub fn program(input: &[u8]) -> Vec<u8> {
+    let mut out = Vec::new();
+    if input.len() > INPUT_LIMIT {
+        write_refusal(Refusal { number: 9, place: 0 }, &mut out);
+        return out;
+    }
+    let (names, rest) = cut_line(input);
+    match check_names(names) {
+        Ok(()) => write_rows(rest, &mut out),
+        Err(refusal) => write_refusal(refusal, &mut out),
+    }
+    out
+}
+
+/// The answers to the rows that follow the name line. An empty rest is no row; an empty line with its LF is one.
+fn write_rows(mut rest: &[u8], out: &mut Vec<u8>) {
+    while !rest.is_empty() {
+        let (row, after) = cut_line(rest);
+        match plan_row(row) {
+            Ok(plan) => write_plan(&plan, out),
+            Err(refusal) => write_refusal(refusal, out),
+        }
+        rest = after;
+    }
+}
+
+/// The first line without its LF, and what follows that LF. The last line may lack the LF.
+fn cut_line(text: &[u8]) -> (&[u8], &[u8]) {
+    match text.iter().position(|&byte| byte == b'\n') {
+        Some(end) => (&text[..end], &text[end + 1..]),
+        None => (text, &[]),
+    }
+}
+
+/// Appends the text of a plan, header line included, each line ended by LF.
+pub fn write_plan(plan: &Plan, out: &mut Vec<u8>) {
+    out.extend_from_slice(HEADER);
+    for line in &plan.lines {
+        write_line(line, out);
+    }
+}
+
+fn write_line(line: &Line, out: &mut Vec<u8>) {
+    out.push(match line.kind {
+        Kind::EndNode => b'E',
+        Kind::Up => b'U',
+        Kind::Down => b'D',
+        Kind::Sink => b'S',
+    });
+    let Line { depth, rate, burst, slots, frames, latency, buffer, delay, .. } = *line;
+    for figure in [depth as u64, rate, burst, slots, frames, latency, buffer, delay] {
+        write_figure(figure, out);
+    }
+    out.push(b'\n');
+}
+
+/// The line of a refusal.
+fn write_refusal(refusal: Refusal, out: &mut Vec<u8>) {
+    out.push(b'R');
+    write_figure(u64::from(refusal.number), out);
+    write_figure(u64::from(refusal.place), out);
+    out.push(b'\n');
+}
+
+/// A space and a number in decimal. The digits are found from the last to the first; a u64 has at most 20.
+fn write_figure(mut figure: u64, out: &mut Vec<u8>) {
+    let mut digits = [0; 20];
+    let mut start = digits.len();
+    loop {
+        start -= 1;
+        digits[start] = b'0' + (figure % 10) as u8;
+        figure /= 10;
+        if figure == 0 {
+            break;
+        }
+    }
+    out.push(b' ');
+    out.extend_from_slice(&digits[start..]);
+}
+
+#[cfg(test)]
+mod tests {
+    use super::*;
+
+    const P1: &str = "8 4 1 2 1 0 0 1 1 19 7 0";
+    const P1_PLAN: &str = "KIND DEPTH RATE BURST SLOTS FRAMES LATENCY BUFFER DELAY\n\
+                           E 0 1 245760 1 9 245032 2 272339\n\
+                           U 1 1 490792 1 9 245032 3 299565\n\
+                           S 0 3 1962440 0 0 0 8 571904\n";
+    const P2: &str = "8 4 1 2 1 0 1 1 1 19 7 0";
+    const P2_PLAN: &str = "KIND DEPTH RATE BURST SLOTS FRAMES LATENCY BUFFER DELAY\n\
+                           E 0 1 245760 1 9 245032 2 272339\n\
+                           U 1 1 490792 1 9 245032 3 299565\n\
+                           D 0 2 1226616 1 9 245032 7 381323\n\
+                           S 1 3 2207472 0 0 0 9 953227\n";
+
+    fn printed(input: &str) -> String {
+        String::from_utf8(program(input.as_bytes())).unwrap()
+    }
+
+    /// What is printed after the right name line and its LF.
+    fn after_names(rest: &str) -> String {
+        printed(&format!("{NAMES}\n{rest}"))
+    }
+
+    #[test]
+    fn p1_and_p2() {
+        assert_eq!(after_names(P1), P1_PLAN);
+        assert_eq!(after_names(P2), P2_PLAN);
+    }
+
+    #[test]
+    fn every_row_has_its_header_line() {
+        assert_eq!(after_names(&format!("{P1}\n{P2}\n{P1}\n")), [P1_PLAN, P2_PLAN, P1_PLAN].concat());
+    }
+
+    #[test]
+    fn name_line() {
+        assert_eq!(printed(""), "R 1 0\n");
+        assert_eq!(printed("\n"), "R 1 0\n");
+        assert_eq!(printed(NAMES), "");
+        assert_eq!(printed(&format!("{NAMES}\n")), "");
+        assert_eq!(printed(&format!("{NAMES} \n{P1}\n")), "R 1 0\n");
+        assert_eq!(printed(&format!("{NAMES}\r\n{P1}\n")), "R 1 0\n");
+        assert_eq!(printed(&format!("{}\n{P1}\n", NAMES.to_lowercase())), "R 1 0\n");
+        assert_eq!(printed(&format!("\n{NAMES}\n{P1}\n")), "R 1 0\n");
+        assert_eq!(printed(P1), "R 1 0\n");
+    }
+
+    #[test]
+    fn ends_of_lines() {
+        assert_eq!(after_names(&format!("{P1}\n")), P1_PLAN);
+        assert_eq!(after_names("\n"), "R 2 1\n");
+        assert_eq!(after_names("\n\n"), "R 2 1\nR 2 1\n");
+        assert_eq!(after_names(&format!("\n{P1}\n\n{P1}")), ["R 2 1\n", P1_PLAN, "R 2 1\n", P1_PLAN].concat());
+        assert_eq!(after_names(&format!("{P1}\r\n")), "R 2 12\n");
+        assert_eq!(after_names(&format!("{P1}\0")), "R 2 12\n");
+        assert_eq!(after_names(&format!("{P1} \n")), "R 2 13\n");
+    }
+
+    #[test]
+    fn refused_rows_are_followed_by_the_next() {
+        let rows = [
+            "08 4 1 2 1 0 0 1 1 19 7 0",
+            "8 4 1 2 1 0 0 0 1 19 7 0",
+            "4 8 1 2 1 0 0 1 1 19 7 0",
+            "8 4 1 4 4 0 0 1 1 19 7 0",
+            "5 4 1 2 1 0 0 1 1 19 7 0",
+            "0 0 0 0 5 0 0 1 1 19 7 0",
+            P1,
+        ];
+        assert_eq!(after_names(&rows.join("\n")), format!("R 2 1\nR 3 8\nR 4 2\nR 5 0\nR 6 0\nR 7 0\n{P1_PLAN}"));
+    }
+
+    #[test]
+    fn length_of_the_input() {
+        assert_eq!(program(&[b' '; INPUT_LIMIT + 1]), b"R 9 0\n");
+        assert_eq!(program(&[b' '; INPUT_LIMIT]), b"R 1 0\n");
+        let mut input = format!("{NAMES}\n{P1}\n").into_bytes();
+        input.resize(INPUT_LIMIT, b' ');
+        assert_eq!(program(&input), format!("{P1_PLAN}R 2 1\n").as_bytes());
+        input.push(b' ');
+        assert_eq!(program(&input), b"R 9 0\n");
+    }
+
+    #[test]
+    fn figures() {
+        let mut out = Vec::new();
+        for figure in [0, 9, 10, 4095, u64::MAX] {
+            write_figure(figure, &mut out);
+        }
+        assert_eq!(out, b" 0 9 10 4095 18446744073709551615");
+    }
+}

@@ -1,0 +1,305 @@
+//! Document 01, "The tree and its loads": reservations, conditions 5, 6 and 7, and the lines of the plan.
+
+use crate::air::{Air, Reservation};
+use crate::settings::Settings;
+use crate::Refusal;
+
+/// Reservations of a router's superframe, for its end nodes and child routers together.
+const MOST_RESERVATIONS: u64 = 7;
+/// H is at most 12.
+const HIGHEST: usize = 12;
+
+/// The sort of a line: E, U, D or S of document 01, "The printed plan".
+#[derive(Clone, Copy, Debug, PartialEq, Eq)]
+pub enum Kind {
+    EndNode,
+    Up,
+    Down,
+    Sink,
+}
+
+/// A line of the plan, its figures in the order of the header line.
+#[derive(Clone, Copy, Debug, PartialEq, Eq)]
+pub struct Line {
+    pub kind: Kind,
+    pub depth: usize,
+    pub rate: u64,
+    pub burst: u64,
+    pub slots: u64,
+    pub frames: u64,
+    pub latency: u64,
+    pub buffer: u64,
+    pub delay: u64,
+}
+
+/// The lines of a plan in the order in which they are printed.
+#[derive(Clone, Debug, PartialEq, Eq)]
+pub struct Plan {
+    pub lines: Vec<Line>,
+}
+
+/// A tree that keeps conditions 5, 6 and 7, with its reservations.
+pub struct Tree<'a> {
+    settings: &'a Settings,
+    air: Air,
+    end_node: Reservation,
+    /// The reservation of the upward link of each depth 1 to H, at that index.
+    up: [Reservation; HIGHEST + 1],
+    /// The reservation of the downward link of each depth 0 to SINK − 1, at that index.
+    down: [Reservation; HIGHEST],
+}
+
+/// Conditions 5, 6 and 7.
+pub fn reserve(settings: &Settings) -> Result<Tree<'_>, Refusal> {
+    if settings.end_nodes + settings.routers > MOST_RESERVATIONS {
+        return Err(Refusal { number: 5, place: 0 });
+    }
+    if router_count(settings) > 1 << (settings.beacon_order - settings.superframe_order) {
+        return Err(Refusal { number: 6, place: 0 });
+    }
+    let tree = Tree::new(settings);
+    match (0..=settings.height).find(|&depth| tree.slots_used(depth) > tree.air.reservable) {
+        Some(depth) => Err(Refusal { number: 7, place: depth as u32 }),
+        None => Ok(tree),
+    }
+}
+
+/// The sum of NR^j for j = 0 to H; it is 1 where H = 0. It is at most the sum of 7^j for j = 0 to 12, below 2^34.
+fn router_count(settings: &Settings) -> u64 {
+    (0..settings.height).fold(1, |count, _| 1 + settings.routers * count)
+}
+
+impl Tree<'_> {
+    /// Reserves for the rates of all links. Rates do not depend on latencies, so condition 7 can be decided before any
+    /// burst is formed. The tree has at most 2^14 routers (condition 6) and so at most 2^17 sensors, which puts every
+    /// rate below 2^29.
+    fn new(settings: &Settings) -> Tree<'_> {
+        let air = Air::new(settings.beacon_order, settings.superframe_order, settings.octets, settings.acknowledged);
+        let end_node = air.reserve(settings.rate);
+        let none = Reservation::default();
+        let mut tree = Tree { settings, air, end_node, up: [none; HIGHEST + 1], down: [none; HIGHEST] };
+        tree.reserve_upward();
+        tree.reserve_downward();
+        tree
+    }
+
+    fn reserve_upward(&mut self) {
+        let mut rate = self.local(self.settings.rate, self.settings.rate);
+        for depth in (1..=self.settings.height).rev() {
+            self.up[depth] = self.air.reserve(rate);
+            rate = self.local(self.settings.rate, self.settings.rate) + self.settings.routers * rate;
+        }
+    }
+
+    fn reserve_downward(&mut self) {
+        let mut from_above = 0;
+        for depth in 0..self.settings.sink {
+            let from_below = (self.settings.routers - 1) * self.up[depth + 1].rate;
+            let rate = self.local(self.settings.rate, self.settings.rate) + from_below + from_above;
+            self.down[depth] = self.air.reserve(rate);
+            from_above = rate;
+        }
+    }
+
+    /// The sensor and end node terms of a router's load, for its rate or its burst: OWN times that of a sensor and NE
+    /// times that of what left an end node.
+    fn local(&self, sensor: u64, left_end_node: u64) -> u64 {
+        self.settings.own * sensor + self.settings.end_nodes * left_end_node
+    }
+
+    /// Slots used at a depth; where the depth has both sorts of router, the larger figure. The root is on the sink's
+    /// path if SINK > 0, and there is no other router at its depth.
+    fn slots_used(&self, depth: usize) -> u64 {
+        let end_nodes = self.settings.end_nodes * self.end_node.slots;
+        if depth == self.settings.height {
+            return end_nodes;
+        }
+        let child = self.up[depth + 1].slots;
+        let off_path = self.settings.routers * child;
+        if depth >= self.settings.sink {
+            return end_nodes + off_path;
+        }
+        let on_path = (self.settings.routers - 1) * child + self.down[depth].slots;
+        end_nodes + if depth == 0 { on_path } else { on_path.max(off_path) }
+    }
+
+    /// The lines of the plan.
+    ///
+    /// Every sum fits into 64 bits. After condition 7 a link carries at most m ≤ 15 × S / X frames, below 2^19, and
+    /// T < 2^24, so a link adds less than 2^43 to a burst. There are fewer than 2^17 + 12 links, and at most 2^17
+    /// sensors with bursts below 255 × 2^24 each: all of them together stay below 2^61.
+    pub fn plan(&self) -> Plan {
+        let lines = Vec::with_capacity(self.settings.height + self.settings.sink + 2);
+        let mut bursts = Bursts { tree: self, lines, local: 0, left_up: [0; HIGHEST + 2], delay: 0 };
+        bursts.end_node();
+        bursts.upward();
+        bursts.downward_and_sink();
+        Plan { lines: bursts.lines }
+    }
+}
+
+/// The second walk over the tree: bursts, and with them the lines.
+struct Bursts<'a> {
+    tree: &'a Tree<'a>,
+    lines: Vec<Line>,
+    /// The burst of a router's sensor and end node terms.
+    local: u64,
+    /// The burst that left each depth upward, at that index; 0 at H + 1, where no router is.
+    left_up: [u64; HIGHEST + 2],
+    /// The delays so far; in the end the total delay.
+    delay: u64,
+}
+
+impl Bursts<'_> {
+    /// Adds a link's line and returns the burst that leaves the link.
+    fn link(&mut self, kind: Kind, depth: usize, reservation: Reservation, burst: u64) -> u64 {
+        let Reservation { rate, slots, frames } = reservation;
+        let latency = self.tree.air.latency(&reservation);
+        let left = burst + rate * latency;
+        let buffer = left.div_ceil(self.tree.air.interval);
+        let delay = burst.div_ceil(frames) + latency;
+        self.lines.push(Line { kind, depth, rate, burst, slots, frames, latency, buffer, delay });
+        self.delay += delay;
+        left
+    }
+
+    /// The end node's line, none if NE = 0; its delay is 0 then.
+    fn end_node(&mut self) {
+        let sensor = self.tree.settings.burst * self.tree.air.interval;
+        let mut left = 0;
+        if self.tree.settings.end_nodes > 0 {
+            left = self.link(Kind::EndNode, 0, self.tree.end_node, sensor);
+        }
+        self.local = self.tree.local(sensor, left);
+    }
+
+    fn upward(&mut self) {
+        for depth in (1..=self.tree.settings.height).rev() {
+            let burst = self.local + self.tree.settings.routers * self.left_up[depth + 1];
+            self.left_up[depth] = self.link(Kind::Up, depth, self.tree.up[depth], burst);
+        }
+    }
+
+    fn downward_and_sink(&mut self) {
+        let mut from_above = 0;
+        for depth in 0..self.tree.settings.sink {
+            let from_below = (self.tree.settings.routers - 1) * self.left_up[depth + 1];
+            let burst = self.local + from_below + from_above;
+            from_above = self.link(Kind::Down, depth, self.tree.down[depth], burst);
+        }
+        let from_below = self.tree.settings.routers * self.left_up[self.tree.settings.sink + 1];
+        self.sink(self.local + from_below + from_above);
+    }
+
+    /// The sink's line. Its load has the sensor and end node terms, NR upward loads from below if SINK < H, and the
+    /// downward load from above if SINK > 0; for SINK = 0 that is the upward load of depth 0.
+    fn sink(&mut self, burst: u64) {
+        let Settings { rate, routers, sink, .. } = *self.tree.settings;
+        let from_below = if sink < self.tree.settings.height { routers * self.tree.up[sink + 1].rate } else { 0 };
+        let from_above = if sink > 0 { self.tree.down[sink - 1].rate } else { 0 };
+        self.lines.push(Line {
+            kind: Kind::Sink,
+            depth: sink,
+            rate: self.tree.local(rate, rate) + from_below + from_above,
+            burst,
+            slots: 0,
+            frames: 0,
+            latency: 0,
+            buffer: burst.div_ceil(self.tree.air.interval),
+            delay: self.delay,
+        });
+    }
+}
+
+/// The most slots that any depth uses, and L, for settings that keep conditions 5 and 6.
+#[cfg(test)]
+pub fn fullest(settings: &Settings) -> (u64, u64) {
+    let tree = Tree::new(settings);
+    let used = (0..=settings.height).map(|depth| tree.slots_used(depth)).max();
+    (used.unwrap_or(0), tree.air.reservable)
+}
+
+#[cfg(test)]
+mod tests {
+    use super::*;
+    use crate::plan_row;
+
+    fn lines(row: &str) -> Vec<Line> {
+        plan_row(row.as_bytes()).unwrap().lines
+    }
+
+    fn refusal(row: &str) -> Option<(u32, u32)> {
+        plan_row(row.as_bytes()).err().map(|refusal| (refusal.number, refusal.place))
+    }
+
+    #[test]
+    fn p1_lines() {
+        let lines = lines("8 4 1 2 1 0 0 1 1 19 7 0");
+        assert_eq!(lines.iter().map(|line| line.kind).collect::<Vec<_>>(), [Kind::EndNode, Kind::Up, Kind::Sink]);
+        assert_eq!(lines.iter().map(|line| line.buffer).collect::<Vec<_>>(), [2, 3, 8]);
+        assert_eq!(lines[2].delay, 571_904);
+    }
+
+    #[test]
+    fn p3_and_p4() {
+        let lines = lines("0 0 0 0 4 0 0 1 1 19 7 0");
+        let end_node = lines[0];
+        assert_eq!((end_node.slots, end_node.frames, end_node.latency, end_node.delay), (2, 1, 1_064, 2_024));
+        assert_eq!(refusal("0 0 0 0 5 0 0 1 1 19 7 0"), Some((7, 0)));
+    }
+
+    #[test]
+    fn p7_to_p10() {
+        assert_eq!(refusal("5 4 1 1 1 0 0 1 1 19 7 0"), None);
+        assert_eq!(refusal("5 4 1 2 1 0 0 1 1 19 7 0"), Some((6, 0)));
+        assert_eq!(refusal("8 4 1 4 3 0 0 1 1 19 7 0"), None);
+        assert_eq!(refusal("8 4 1 4 4 0 0 1 1 19 7 0"), Some((5, 0)));
+    }
+
+    #[test]
+    fn no_end_nodes_no_line() {
+        let lines = lines("8 4 1 2 0 1 1 1 1 19 7 0");
+        assert_eq!(lines.iter().map(|line| line.kind).collect::<Vec<_>>(), [Kind::Up, Kind::Down, Kind::Sink]);
+        assert_eq!(lines[2].delay, lines[0].delay + lines[1].delay);
+    }
+
+    #[test]
+    fn lines_of_a_deep_sink() {
+        let lines = lines("14 7 3 2 1 1 2 3 1 19 7 0");
+        let places: Vec<_> = lines.iter().map(|line| (line.kind, line.depth)).collect();
+        let expected = [
+            (Kind::EndNode, 0),
+            (Kind::Up, 3),
+            (Kind::Up, 2),
+            (Kind::Up, 1),
+            (Kind::Down, 0),
+            (Kind::Down, 1),
+            (Kind::Sink, 2),
+        ];
+        assert_eq!(places, expected);
+        assert_eq!(lines.iter().map(|line| line.rate).collect::<Vec<_>>(), [1, 2, 6, 14, 16, 24, 30]);
+    }
+
+    /// Rows that the first depth with too few slots answers, at each depth where that can happen.
+    #[test]
+    fn first_depth_with_too_few_slots() {
+        assert_eq!(refusal("14 1 2 2 3 0 2 1 1 11 1 0"), Some((7, 1)));
+        assert_eq!(refusal("14 1 4 2 0 1 3 1 1 9 1 0"), Some((7, 2)));
+        assert_eq!(refusal("14 5 5 2 3 0 5 1 1 30 1 0"), Some((7, 4)));
+        assert_eq!(refusal("14 3 6 2 1 0 6 1 1 12 1 0"), Some((7, 5)));
+        assert_eq!(refusal("14 6 7 2 1 0 7 1 1 55 1 1"), Some((7, 6)));
+    }
+
+    /// The rate of the sink's line is that of all sensors: a full tree's routers, each with NE + OWN of them.
+    #[test]
+    fn the_sink_gets_every_sensor() {
+        for (row, sensors) in [
+            ("14 5 8 2 0 1 0 1 1 5 1 0", 511),
+            ("14 5 8 2 0 1 8 1 1 5 1 0", 511),
+            ("14 7 3 2 4 1 2 1 1 5 1 0", 75),
+            ("14 5 2 6 1 0 2 1 1 5 1 0", 43),
+        ] {
+            assert_eq!(lines(row).last().unwrap().rate, sensors, "{row}");
+        }
+    }
+}

@@ -1,0 +1,151 @@
+//! Runs that try to break a plan: directed ones, made alike for every row, and drawn ones.
+
+use crate::aim::{self, Aim};
+use crate::chance::Chance;
+use crate::hold::{self, Promises};
+use crate::readings::{self, Pattern, PATTERNS};
+use crate::row::Row;
+use crate::run::Outcome;
+use crate::setup::Setup;
+use crate::shapes::{self, Hanging};
+use crate::ties::Ties;
+use crate::tree::Tree;
+use crate::windows::Windows;
+
+/// The most nodes of a tree.
+const NODES: usize = 400;
+
+/// About the most frames of a directed run, and of a drawn one.
+const FRAMES: u64 = 40_000;
+const FRAMES_DRAWN: u64 = 4_000;
+
+/// How a setup is made for a tree.
+#[derive(Clone, Copy, Debug)]
+pub struct Method {
+    pub windows: Windows,
+    /// What the sensors do; none if it is drawn for each of them.
+    pub pattern: Option<Pattern>,
+    pub ties: Ties,
+}
+
+/// The methods tried on every directed tree: all frames just miss every window.
+pub const ON_EVERY_TREE: [Method; 2] = [
+    Method { windows: Windows::JustMissed, pattern: Some(Pattern::Greedy), ties: Ties::OldestLast },
+    Method { windows: Windows::JustMissed, pattern: Some(Pattern::Held), ties: Ties::OldestLast },
+];
+
+/// The methods tried on the largest directed tree besides.
+pub const ON_ONE_TREE: [Method; 3] = [
+    Method { windows: Windows::First, pattern: Some(Pattern::Greedy), ties: Ties::OldestLast },
+    Method { windows: Windows::Last, pattern: Some(Pattern::Greedy), ties: Ties::Drawn(1) },
+    Method { windows: Windows::Lines, pattern: Some(Pattern::OnOff), ties: Ties::OldestFirst },
+];
+
+/// The most nodes of a tree whose sensors may all make their whole burst.
+fn node_limit(row: &Row, frames: u64) -> usize {
+    NODES.min((frames / (row.burst + 1)) as usize).max(8)
+}
+
+/// The trees of the directed runs: the bare longest route, the route with all end nodes, with all
+/// child routers, and the full tree, each where it is not too large; the largest last.
+pub fn directed_trees(row: &Row) -> Vec<Tree> {
+    let limit = node_limit(row, FRAMES);
+    let mut trees: Vec<Tree> = Vec::new();
+    let made = [
+        shapes::route(row, Hanging::Bare, limit),
+        shapes::route(row, Hanging::Ends, limit),
+        shapes::route(row, Hanging::Routers, limit),
+        shapes::full(row, limit),
+    ];
+    for tree in made.into_iter().flatten() {
+        // A tree of the same size as the one before is the same tree.
+        if trees.last().is_none_or(|last| last.nodes.len() < tree.nodes.len()) {
+            trees.push(tree);
+        }
+    }
+    trees
+}
+
+/// A setup by a method.
+pub fn directed(
+    row: &Row,
+    promises: &Promises,
+    tree: &Tree,
+    method: Method,
+    chance: &mut Chance,
+) -> Result<Setup, String> {
+    let aim = aim::aim(row, promises, tree, method.windows, chance)?;
+    Ok(setup(row, tree.clone(), aim, method, FRAMES, chance))
+}
+
+/// The setup with the frame that was on its way longest going last in every tie, the others drawn.
+pub fn watched(setup: &Setup, outcome: &Outcome, seed: u64) -> Option<Setup> {
+    let (frame, _) = hold::longest(outcome)?;
+    Some(Setup { ties: Ties::WatchedLast { frame, seed }, ..setup.clone() })
+}
+
+/// A drawn setup.
+pub fn drawn(row: &Row, promises: &Promises, chance: &mut Chance) -> Result<Setup, String> {
+    let tree = drawn_tree(row, chance);
+    let windows =
+        [Windows::First, Windows::Last, Windows::Lines, Windows::Drawn, Windows::JustMissed, Windows::JustMissed];
+    let method = Method {
+        windows: windows[chance.index(windows.len())],
+        pattern: if chance.once_in(3) { None } else { Some(drawn_pattern(chance)) },
+        ties: drawn_ties(chance),
+    };
+    let mut aim = aim::aim(row, promises, &tree, method.windows, chance)?;
+    if chance.once_in(4) {
+        // All sensors in the same symbol, that of one node.
+        let symbol = aim.symbols[chance.index(aim.symbols.len())];
+        aim.symbols.fill(symbol);
+    }
+    let mut setup = setup(row, tree, aim, method, FRAMES_DRAWN, chance);
+    if chance.once_in(3) {
+        some_silent(&mut setup, chance);
+    }
+    Ok(setup)
+}
+
+fn drawn_pattern(chance: &mut Chance) -> Pattern {
+    PATTERNS[chance.index(PATTERNS.len())]
+}
+
+/// A rule for ties.
+pub fn drawn_ties(chance: &mut Chance) -> Ties {
+    match chance.up_to(3) {
+        0 => Ties::OldestFirst,
+        1 => Ties::Drawn(chance.draw()),
+        _ => Ties::OldestLast,
+    }
+}
+
+fn drawn_tree(row: &Row, chance: &mut Chance) -> Tree {
+    let limit = node_limit(row, FRAMES_DRAWN);
+    let special = match chance.up_to(5) {
+        0 => shapes::route(row, Hanging::Bare, limit),
+        1 => shapes::route(row, Hanging::Ends, limit),
+        2 => shapes::full(row, limit),
+        _ => None,
+    };
+    special.unwrap_or_else(|| shapes::drawn(row, limit, chance))
+}
+
+/// About a quarter of the sensors makes nothing.
+fn some_silent(setup: &mut Setup, chance: &mut Chance) {
+    let silent: Vec<bool> = setup.tree.nodes.iter().map(|_| chance.once_in(4)).collect();
+    setup.readings.retain(|reading| !silent[reading.sensor]);
+}
+
+/// Offsets, readings of all sensors and ties for a tree.
+fn setup(row: &Row, tree: Tree, aim: Aim, method: Method, frames: u64, chance: &mut Chance) -> Setup {
+    let sensors = tree.sensors(row);
+    let share = frames / (sensors.len() as u64).max(1);
+    let count = (row.burst + 3 * row.rate + 4).min(share).max(row.burst + 1);
+    let mut list = Vec::new();
+    for sensor in sensors {
+        let pattern = method.pattern.unwrap_or_else(|| drawn_pattern(chance));
+        list.extend(readings::readings(row, sensor, pattern, aim.symbols[sensor], count, chance));
+    }
+    Setup { tree, offsets: aim.offsets, readings: list, ties: method.ties }
+}

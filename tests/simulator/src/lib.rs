@@ -1,0 +1,31 @@
+//! An independent simulator of "The run" of document 01.
+//!
+//! It holds the figures of a printed plan (slots, queue sizes, total delay, the sink's burst and
+//! rate) against simulated radio trees. The run takes nothing from the planner but these figures.
+//! The package also has its own reading of document 01's recurrences, with five deliberate
+//! mutations, so that it can be shown that wrong figures are found out.
+
+pub mod aim;
+pub mod air;
+pub mod attack;
+pub mod bucket;
+pub mod chance;
+pub mod change;
+pub mod drawn_rows;
+pub mod figures;
+pub mod hold;
+pub mod link;
+pub mod naive;
+pub mod printed;
+pub mod readings;
+pub mod report;
+pub mod row;
+pub mod rows;
+pub mod run;
+pub mod setup;
+pub mod shapes;
+pub mod stretch;
+pub mod ties;
+pub mod tree;
+pub mod trial;
+pub mod windows;
