@@ -11,7 +11,7 @@ use lib.ListN.{getD, length, length-set, set}
 use lib.Seq.{sets, length-sets, getD-set-same, getD-set-other}
 use borrow.Author.Tests.{ltb-true, ltb-false}
 use Rattle.planner.specs.declared.table.Link.{Link}
-use Rattle.planner.specs.Inner.{five, linkIn, linkSet, HeldFrom, HeldBelow}
+use Rattle.planner.specs.Inner.{numbersOf, linkIn, linkSet, HeldFrom, HeldBelow}
 
 -- ---- numbers set one behind another
 
@@ -60,13 +60,13 @@ module _ (ns : List ℕ) (i : ℕ) (e : length ns ≡ 65) (low : i < 13) where
 -- ---- one link
 
 pub link-set-length : (ns : List ℕ) (i : ℕ) (v : Link) → length (linkSet ns i v) ≡ length ns
-link-set-length ns i v = length-sets ns (5 * i) (five v)
+link-set-length ns i v = length-sets ns (5 * i) (numbersOf v)
 
 -- the link that was set
 pub link-set-same : (ns : List ℕ) (i : ℕ) (v : Link) → length ns ≡ 65 → i < 13 → linkIn (linkSet ns i v) i ≡ v
 unfolding linkIn
 link-set-same ns i v e low =
-    let there : (k : ℕ) → k < 5 → getD (linkSet ns i v) (5 * i + k) 0 ≡ getD (five v) k 0 = λ k h. sets-there (five v) ns (5 * i) k h (omega arith) in
+    let there : (k : ℕ) → k < 5 → getD (linkSet ns i v) (5 * i + k) 0 ≡ getD (numbersOf v) k 0 = λ k h. sets-there (numbersOf v) ns (5 * i) k h (omega arith) in
     let first : getD (linkSet ns i v) (5 * i) 0 ≡ v .load .rate .0 = sets-before (v .load .burst .0 ∷ v .reservation .slots .0 ∷ v .reservation .frames .0 ∷ v .reservation .latency .0 ∷ []) (set ns (5 * i) (v .load .rate .0)) (suc (5 * i)) (5 * i) (omega arith) ∙ getD-set-same ns (5 * i) (v .load .rate .0) 0 (omega arith) in
     rw (first, there 1 (omega arith), there 2 (omega arith), there 3 (omega arith), there 4 (omega arith)) refl
 
@@ -77,10 +77,10 @@ link-set-other ns i j v n =
     rw (other (5 * j) (omega arith) (omega arith), other (5 * j + 1) (omega arith) (omega arith), other (5 * j + 2) (omega arith) (omega arith), other (5 * j + 3) (omega arith) (omega arith), other (5 * j + 4) (omega arith) (omega arith)) refl
   where
     by : (m : ℕ) (b : Bool) → ltb j i ≡ b → 5 * j ≤ m → m < 5 * j + 5 → getD (linkSet ns i v) m 0 ≡ getD ns m 0
-    by m true e from to = sets-before (five v) ns (5 * i) m (omega (arith, ltb-true j i e))
+    by m true e from to = sets-before (numbersOf v) ns (5 * i) m (omega (arith, ltb-true j i e))
     by m false e from to = elim (ℕ-discrete j i) [
       | yes k ↦ absurd (n k)
-      | no k ↦ sets-behind (five v) ns (5 * i) m (omega (arith, ltb-false j i e))
+      | no k ↦ sets-behind (numbersOf v) ns (5 * i) m (omega (arith, ltb-false j i e))
     ]
 
     other : (m : ℕ) → 5 * j ≤ m → m < 5 * j + 5 → getD (linkSet ns i v) m 0 ≡ getD ns m 0

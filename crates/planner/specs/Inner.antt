@@ -1,5 +1,5 @@
--- What the inner functions presume and answer. Nobody has to believe this: the contract of the entry does not use it, but for numbers 3
--- to 6 as a list. Assumes nothing: these are definitions.
+-- What the inner functions presume and answer. Nobody has to believe this: the contract of the entry does not use it. Assumes nothing:
+-- these are definitions.
 use mathlib.Core.Path.{_≡_}
 use mathlib.Core.List.{List, [], _∷_, _++_}
 use Prim.Native.Nat.{ℕ, zero, suc, _+_, _*_, _≤_, _<_}
@@ -46,11 +46,11 @@ linkIn ns i = record {
 }
 
 -- a link's numbers
-abbrev pub five : Link → List ℕ
-five v = v .load .rate .0 ∷ v .load .burst .0 ∷ v .reservation .slots .0 ∷ v .reservation .frames .0 ∷ v .reservation .latency .0 ∷ []
+abbrev pub numbersOf : Link → List ℕ
+numbersOf v = v .load .rate .0 ∷ v .load .burst .0 ∷ v .reservation .slots .0 ∷ v .reservation .frames .0 ∷ v .reservation .latency .0 ∷ []
 
 abbrev pub linkSet : List ℕ → ℕ → Link → List ℕ
-linkSet ns i v = sets ns (5 * i) (five v)
+linkSet ns i v = sets ns (5 * i) (numbersOf v)
 
 -- a table holds f from depth i to depth h
 pub record HeldFrom (f : ℕ → Link) (i h : ℕ) (ns : List ℕ) : Type 0 where

@@ -1,6 +1,7 @@
 // The lines of a plan, put one behind another in lent memory. What is required here `lines::put_lines` meets.
 ghost use mathlib.Core.Path.{_≡_};
 ghost use Prim.Native.Nat.{_+_, _≤_};
+ghost use Rattle.links.specs.Answers.{figuresAnswered};
 ghost use Rattle.balanced.specs.Times.{timingOf};
 ghost use Rattle.balanced.specs.Loads.{sensor, atSink};
 ghost use Rattle.balanced.specs.declared.Kind.the-variants.{Sink};
@@ -38,6 +39,31 @@ fn put_next(out: &mut [u8], w: Written, line: Line) -> Written
     }
 }
 
+// Puts the line of a link.
+fn put_link(
+    out: &mut [u8],
+    w: Written,
+    interval: Symbols,
+    kind: Kind,
+    depth: u64,
+    link: Link,
+) -> Written
+    requires { ⌜ w .end ≤ 4306 ⌝ }
+    ensures { λ r. ⌜ page r (now (out .exit)) ≡ pushed (page w (now (out .entry))) (line kind depth (figuresAnswered interval (link .load) (link .reservation))) ⌝ }
+    ensures { λ r. ⌜ r .end ≤ w .end + 170 ⌝ }
+{
+    let figures = links::figures_of(interval, link.load, link.reservation);
+    put_next(
+        out,
+        w,
+        Line {
+            kind,
+            depth,
+            figures,
+        },
+    )
+}
+
 // Puts the end nodes' line, where there are end nodes.
 pub(crate) fn put_end(
     out: &mut [u8],
@@ -56,16 +82,7 @@ pub(crate) fn put_end(
     if s.ne == 0 {
         return w;
     }
-    let figures = links::figures_of(interval, end.load, end.reservation);
-    put_next(
-        out,
-        w,
-        Line {
-            kind: Kind::EndNode,
-            depth: 0,
-            figures,
-        },
-    )
+    put_link(out, w, interval, Kind::EndNode, 0, end)
 }
 
 // Puts the upward lines, from depth H down to 1.
@@ -88,16 +105,7 @@ pub(crate) fn put_upward(
     while n < s.h {
         let i = s.h - n;
         let link = link_at(up, i);
-        let figures = links::figures_of(interval, link.load, link.reservation);
-        w = put_next(
-            out,
-            w,
-            Line {
-                kind: Kind::Upward,
-                depth: i,
-                figures,
-            },
-        );
+        w = put_link(out, w, interval, Kind::Upward, i, link);
         n += 1;
     }
     w
@@ -122,16 +130,7 @@ pub(crate) fn put_downward(
     let mut i = 0;
     while i < s.sink {
         let link = link_at(down, i);
-        let figures = links::figures_of(interval, link.load, link.reservation);
-        w = put_next(
-            out,
-            w,
-            Line {
-                kind: Kind::Downward,
-                depth: i,
-                figures,
-            },
-        );
+        w = put_link(out, w, interval, Kind::Downward, i, link);
         i += 1;
     }
     w

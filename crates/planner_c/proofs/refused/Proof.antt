@@ -1,4 +1,5 @@
 -- `planner_c::refused` meets its contract. Assumes nothing.
+use mathlib.Core.Path.{refl}
 use borrow.Author.Needs.{needs}
 use Rattle.planner_c.specs.Entries.{told}
 use Rattle.planner_c.proofs.refused.Statement.{statement}
@@ -12,7 +13,7 @@ place-requires c κs = search needs
 
 returns : tie.Need-returns
 unfolding told
-returns c = rw (c .before .number .ensures, c .place .ensures)
+returns c = rw (c .before .number .ensures, c .place .ensures) refl
 
 pub refused-spec : {M : Type 1} → statement M
 refused-spec = tie.close (tie.spec number-requires place-requires returns)

@@ -1,5 +1,5 @@
 -- `planner::page::put_downward` meets its contract. Assumes nothing.
-use mathlib.Core.Path.{_≡_, sym, ap, _∙_}
+use mathlib.Core.Path.{_≡_, refl, sym, ap, _∙_}
 use Prim.Native.Nat.{_+_, _-_, _*_, _≤_, _<_}
 use native.Mathlib.Omega.{arith}
 use lib.ListN.{length}
@@ -24,27 +24,24 @@ loop-holds c = let b = c .before .before in (omega arith, down-start (b .args .s
 link-at-requires : tie.Need-link-at-requires Inv-loop μ-loop
 link-at-requires c κs = let p = c .before .before .before .before .before .pre in (p .1 .1 .0 .size, omega (arith, p .0 .checked .sink, c .if1 .taken))
 
-figures-of-requires : tie.Need-figures-of-requires Inv-loop μ-loop
-figures-of-requires c κs = search needs
-
-put-next-requires : tie.Need-put-next-requires Inv-loop μ-loop
-put-next-requires c κs = omega (arith, c .before .before .before .before .before .loop .inv .2, c .before .before .before .if1 .taken, c .before .before .before .before .before .before .before .before .pre .0 .checked .sink)
+put-link-requires : tie.Need-put-link-requires Inv-loop μ-loop
+put-link-requires c κs = omega (arith, c .before .before .before .before .loop .inv .2, c .before .before .if1 .taken, c .before .before .before .before .before .before .before .pre .0 .checked .sink)
 
 add-i : tie.Need-add-i Inv-loop μ-loop
-add-i c = omega (arith, c .before .before .before .before .before .before .if1 .taken, c .before .before .before .before .before .before .before .before .before .before .before .pre .0 .checked .sink)
+add-i c = omega (arith, c .before .before .before .before .before .if1 .taken, c .before .before .before .before .before .before .before .before .before .before .pre .0 .checked .sink)
 
 loop-less : tie.Need-loop-less Inv-loop μ-loop
-loop-less c = omega (arith, c .before .before .before .before .before .before .if1 .taken)
+loop-less c = omega (arith, c .before .before .before .before .before .if1 .taken)
 
 loop-again : tie.Need-loop-again Inv-loop μ-loop
 loop-again c =
-    let l = c .before .before .before .before .before .before .before .before .loop in
-    let a = c .before .before .before .before .before .before .before .before .before .before .before .args in
-    let p = c .before .before .before .before .before .before .before .before .before .before .before .pre in
-    let low : l .i < a .s .sink = c .before .before .before .before .before .before .if1 .taken in
-    let link = c .before .before .before .before .before .link-at .ensures ∙ p .1 .1 .0 .held (l .i) low in
-    let f = down-figures (a .s) (p .0) (l .i) _ (a .interval) _ low (p .1 .0) link (c .before .before .before .before .figures-of .ensures) in
-    let w = c .before .before .put-next .ensures in
+    let l = c .before .before .before .before .before .before .before .loop in
+    let a = c .before .before .before .before .before .before .before .before .before .before .args in
+    let p = c .before .before .before .before .before .before .before .before .before .before .pre in
+    let low : l .i < a .s .sink = c .before .before .before .before .before .if1 .taken in
+    let link = c .before .before .before .before .link-at .ensures ∙ p .1 .1 .0 .held (l .i) low in
+    let f = down-figures (a .s) (p .0) (l .i) _ (a .interval) _ low (p .1 .0) link refl in
+    let w = c .before .before .put-link .ensures in
     let e = w .0 ∙ ap (λ (x : Figures). pushed (page (l .w) (l .out)) (line Downward (l .i) x)) f in (
       omega arith,
       ap (λ (q : Page). filled q (downLinesFrom (a .s) (a .s .sink - (l .i + 1)) (l .i + 1))) e ∙ down-step (a .s) (page (l .w) (l .out)) (l .i) low ∙ l .inv .1,
@@ -71,8 +68,7 @@ put-downward-spec =
     μ-loop
     loop-holds
     link-at-requires
-    figures-of-requires
-    put-next-requires
+    put-link-requires
     add-i
     loop-less
     loop-again

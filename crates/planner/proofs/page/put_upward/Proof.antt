@@ -1,5 +1,5 @@
 -- `planner::page::put_upward` meets its contract. Assumes nothing.
-use mathlib.Core.Path.{_≡_, sym, ap, _∙_}
+use mathlib.Core.Path.{_≡_, refl, sym, ap, _∙_}
 use Prim.Native.Nat.{_+_, _-_, _*_, _≤_, _<_}
 use native.Mathlib.Omega.{arith}
 use lib.ListN.{length}
@@ -27,27 +27,24 @@ sub-i c = omega (arith, c .before .if1 .taken)
 link-at-requires : tie.Need-link-at-requires Inv-loop μ-loop
 link-at-requires c κs = let p = c .before .before .before .before .before .before .pre in (p .1 .1 .0 .size, omega (arith, p .0 .checked .h))
 
-figures-of-requires : tie.Need-figures-of-requires Inv-loop μ-loop
-figures-of-requires c κs = search needs
-
-put-next-requires : tie.Need-put-next-requires Inv-loop μ-loop
-put-next-requires c κs = omega (arith, c .before .before .before .before .before .before .loop .inv .2, c .before .before .before .before .if1 .taken, c .before .before .before .before .before .before .before .before .before .pre .0 .checked .h)
+put-link-requires : tie.Need-put-link-requires Inv-loop μ-loop
+put-link-requires c κs = omega (arith, c .before .before .before .before .before .loop .inv .2, c .before .before .before .if1 .taken, c .before .before .before .before .before .before .before .before .pre .0 .checked .h)
 
 add-n : tie.Need-add-n Inv-loop μ-loop
-add-n c = omega (arith, c .before .before .before .before .before .before .before .if1 .taken, c .before .before .before .before .before .before .before .before .before .before .before .before .pre .0 .checked .h)
+add-n c = omega (arith, c .before .before .before .before .before .before .if1 .taken, c .before .before .before .before .before .before .before .before .before .before .before .pre .0 .checked .h)
 
 loop-less : tie.Need-loop-less Inv-loop μ-loop
-loop-less c = omega (arith, c .before .before .before .before .before .before .before .if1 .taken)
+loop-less c = omega (arith, c .before .before .before .before .before .before .if1 .taken)
 
 loop-again : tie.Need-loop-again Inv-loop μ-loop
 loop-again c =
-    let l = c .before .before .before .before .before .before .before .before .before .loop in
-    let a = c .before .before .before .before .before .before .before .before .before .before .before .before .args in
-    let p = c .before .before .before .before .before .before .before .before .before .before .before .before .pre in
-    let low : l .n < a .s .h = c .before .before .before .before .before .before .before .if1 .taken in
-    let link = c .before .before .before .before .before .link-at .ensures ∙ p .1 .1 .0 .held (a .s .h - l .n) (omega arith) (omega arith) in
-    let f = up-figures (a .s) (p .0) (a .s .h - l .n) _ (a .interval) _ (p .1 .0) link (c .before .before .before .before .figures-of .ensures) in
-    let w = c .before .before .put-next .ensures in
+    let l = c .before .before .before .before .before .before .before .before .loop in
+    let a = c .before .before .before .before .before .before .before .before .before .before .before .args in
+    let p = c .before .before .before .before .before .before .before .before .before .before .before .pre in
+    let low : l .n < a .s .h = c .before .before .before .before .before .before .if1 .taken in
+    let link = c .before .before .before .before .link-at .ensures ∙ p .1 .1 .0 .held (a .s .h - l .n) (omega arith) (omega arith) in
+    let f = up-figures (a .s) (p .0) (a .s .h - l .n) _ (a .interval) _ (p .1 .0) link refl in
+    let w = c .before .before .put-link .ensures in
     let e = w .0 ∙ ap (λ (x : Figures). pushed (page (l .w) (l .out)) (line Upward (a .s .h - l .n) x)) f in (
       omega arith,
       ap (λ (q : Page). filled q (upLines (a .s) (a .s .h - (l .n + 1)))) e ∙ up-step (a .s) (page (l .w) (l .out)) (l .n) low ∙ l .inv .1,
@@ -75,8 +72,7 @@ put-upward-spec =
     loop-holds
     sub-i
     link-at-requires
-    figures-of-requires
-    put-next-requires
+    put-link-requires
     add-n
     loop-less
     loop-again
