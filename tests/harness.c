@@ -1,5 +1,6 @@
 /*
- * harness.c: calls the planner from C and checks what each call answers and leaves against planner.h and document 01.
+ * harness.c: calls the planner from C and checks what each call answers and leaves against planner.h, document 01 and
+ * request E1 of document 02 (a refusal as one English line).
  *
  *     harness ROWS.TXT SEED CALLS
  *
@@ -8,9 +9,13 @@
  * 2. CALLS rows of noise from a generator that starts with SEED. The same SEED makes the same calls again.
  * 3. Pointers that are NULL, or that point to memory nobody may touch, each beside length 0.
  * 4. The deepest rows, in a thread with little stack.
+ * 5. Refusals that are given by number and place.
  *
- * The library is not built with the sanitizers. So that a byte read or written outside is seen nevertheless, names, row
- * and text each lie in memory of their own between two pages that nobody may touch, close against one of them.
+ * In the first four parts each row is also put into words, and the words are read back.
+ *
+ * The library is not built with the sanitizers. So that a byte read or written outside is seen nevertheless, names,
+ * row, text and line each lie in memory of their own between two pages that nobody may touch, close against one of
+ * them.
  *
  * The exit status is 0 where all is well, 1 where something is not (the report names it), 2 where the file cannot be
  * read or memory is short.
@@ -30,10 +35,12 @@
 
 #define NAMES "BO SO H NR NE OWN SINK BURST RATE HEAD DATA ACK"
 #define HEADER "KIND DEPTH RATE BURST SLOTS FRAMES LATENCY BUFFER DELAY\n"
+#define PLANNED_LINE "The row is planned."
 
 #define LONGEST_FILE 65536 /* number 9 of document 01: the program takes no more */
 #define LONGEST_NOISE 16384
 #define LONGEST_LOAN 4600 /* a little more than the longest text */
+#define LONGEST_LINE 400  /* more than the longest line */
 #define WATCH_SECONDS 60  /* "every call returns": so long we wait for it */
 
 /* Bytes that somebody else holds. */
@@ -61,22 +68,29 @@ static const struct {
 } ranges[12] = {{0, 14}, {0, 14},  {0, 12},   {0, 7},   {0, 7},   {0, 1},
                 {0, 12}, {1, 255}, {1, 4095}, {5, 126}, {1, 122}, {0, 1}};
 
+static const char *const columns[12] = {"BO",   "SO",    "H",    "NR",   "NE",   "OWN",
+                                        "SINK", "BURST", "RATE", "HEAD", "DATA", "ACK"};
+
+static const planner_answer too_short = {.number = 8, .place = 0, .length = 0};
+
 static uint64_t seed;
 static size_t page;
 static struct region names_region = {.name = "the names"}, row_region = {.name = "the row"},
-                     text_region = {.name = "the text"};
+                     text_region = {.name = "the text"}, line_region = {.name = "the line"},
+                     reason_region = {.name = "the line that is read"};
 
 /* What is being called at the moment, for the report. */
 static struct {
     const char *part;
     uint64_t call;
-    struct slice names, row;
-    size_t text_length;
-    planner_answer check, plan;
+    struct slice names, row, line;
+    size_t text_length, line_length;
+    planner_answer check, plan, explain;
+    planner_refusal asked, read;
 } now = {.part = "start"};
 
-/* How often planner_plan_row gave each number. */
-static uint64_t answered[9];
+/* How often planner_plan_row and planner_explain_row gave each number, and how many lines were read. */
+static uint64_t answered[9], explained[9], lines_read;
 
 /* ---- The report of a failure. It is also written from a signal handler, so it uses nothing but write. ---- */
 
@@ -132,6 +146,16 @@ static void say_answer(const char *name, planner_answer answer)
     say("\n");
 }
 
+static void say_refusal(const char *name, planner_refusal refusal)
+{
+    say(name);
+    say(": number ");
+    say_number(refusal.number);
+    say(", place ");
+    say_number(refusal.place);
+    say("\n");
+}
+
 static void send_report(void)
 {
     size_t sent = 0;
@@ -158,9 +182,16 @@ static void report_call(void)
     say_escaped(now.row);
     say("\nlength of text: ");
     say_number(now.text_length);
+    say("\nlength of line: ");
+    say_number(now.line_length);
+    say("\nlatest line to be read: ");
+    say_escaped(now.line);
     say("\n");
     say_answer("planner_check_row, latest answer", now.check);
     say_answer("planner_plan_row, latest answer", now.plan);
+    say_answer("planner_explain_row or planner_explain_refusal, latest answer", now.explain);
+    say_refusal("planner_explain_refusal, latest call", now.asked);
+    say_refusal("planner_read_reason, latest answer", now.read);
     send_report();
 }
 
@@ -244,11 +275,12 @@ static const char *name_of_signal(int number)
 
 static void on_signal(int number, siginfo_t *info, void *context)
 {
-    const struct region *regions[] = {&names_region, &row_region, &text_region, &stack_region};
+    const struct region *regions[] = {&names_region, &row_region,    &text_region,
+                                      &line_region,  &reason_region, &stack_region};
     (void)context;
     say("FAILED: ");
     say(name_of_signal(number));
-    for (size_t i = 0; i < 4 && (number == SIGSEGV || number == SIGBUS); i++) {
+    for (size_t i = 0; i < 6 && (number == SIGSEGV || number == SIGBUS); i++) {
         const char *place = place_of_fault(regions[i], (uintptr_t)info->si_addr);
         if (place != NULL) {
             say(place);
@@ -321,7 +353,6 @@ static void check_answer(planner_answer a)
 /* What planner_plan_row has to answer where planner_check_row answered this. */
 static planner_answer with_loan(planner_answer check, size_t text_length)
 {
-    planner_answer too_short = {.number = 8, .place = 0, .length = 0};
     return check.number == 0 && check.length > text_length ? too_short : check;
 }
 
@@ -330,7 +361,7 @@ static bool names_are_right(void)
     return now.names.length == strlen(NAMES) && memcmp(now.names.at, NAMES, strlen(NAMES)) == 0;
 }
 
-/* Both functions of the library, with all that can be said of the answers alone. */
+/* Both functions of the library that plan, with all that can be said of the answers alone. */
 static planner_answer check_row(const uint8_t *names, size_t names_length, const uint8_t *row, size_t row_length)
 {
     alarm(WATCH_SECONDS);
@@ -353,6 +384,147 @@ static planner_answer plan_row(const uint8_t *names, size_t names_length, const 
             "planner_check_row and planner_plan_row do not agree");
     answered[now.plan.number]++;
     return now.plan;
+}
+
+/* ---- What a line must say: request E1 of document 02 ---- */
+
+/* The line of a refusal that number and place alone determine; NULL for every other number and place. */
+static const char *fixed_line(uint32_t number, uint32_t place)
+{
+    if (place == 0 && number == 1)
+        return "The line of names differs or is missing.";
+    if (place == 0 && number == 8)
+        return "The lent buffer is shorter than the text to be written.";
+    if (place == 0 && number == 9)
+        return "The input is over 65,536 bytes.";
+    return NULL;
+}
+
+/* The values of a row that was answered with 3 or above: all of them can be read then. */
+static void read_values(struct slice row, unsigned *v)
+{
+    for (size_t i = 0, at = 0; i < 12; i++, at++)
+        for (v[i] = 0; at < row.length && row.at[at] != ' '; at++)
+            v[i] = 10 * v[i] + (unsigned)(row.at[at] - '0');
+}
+
+/* Number 4, by its place. Of the two lines for SINK, that with H comes first. */
+static int write_at_odds(char *line, size_t size, uint32_t place, const unsigned *v)
+{
+    switch (place) {
+    case 2:
+        return snprintf(line, size, "Values are at odds at SO, which may not be above BO: SO is %u and BO is %u.", v[1],
+                        v[0]);
+    case 4:
+        return snprintf(line, size, "Values are at odds at NR, which is 0 exactly where H is 0: NR is %u and H is %u.",
+                        v[3], v[2]);
+    case 5:
+        return snprintf(line, size, "Values are at odds at NE, since nothing senses: NE is %u and OWN is %u.", v[4],
+                        v[5]);
+    case 7:
+        if (v[6] > v[2])
+            return snprintf(line, size, "Values are at odds at SINK, which may not be above H: SINK is %u and H is %u.",
+                            v[6], v[2]);
+        return snprintf(line, size,
+                        "Values are at odds at SINK, which is 0 where NR is below 2: SINK is %u and NR is %u.", v[6],
+                        v[3]);
+    default:
+        return snprintf(line, size,
+                        "Values are at odds at DATA, which with HEAD may not be above 127: HEAD is %u and DATA is %u.",
+                        v[9], v[10]);
+    }
+}
+
+static int write_routers(char *line, size_t size, const unsigned *v)
+{
+    uint64_t routers = 1;
+    for (unsigned depth = 0; depth < v[2]; depth++)
+        routers = 1 + v[3] * routers;
+    return snprintf(line, size,
+                    "There are more routers than superframes that fit a beacon interval: %" PRIu64
+                    " against %u.",
+                    routers, 1u << (v[0] - v[1]));
+}
+
+/* The slots used are not counted here: the figure is taken from the line that was found, and must be too large. */
+static int write_slots(char *line, size_t size, uint32_t depth, const unsigned *v, struct slice found)
+{
+    static const unsigned reservable[4] = {8, 12, 14, 15};
+    unsigned most = reservable[v[1] < 3 ? v[1] : 3];
+    uint64_t used = 0;
+    size_t at = 0;
+    while (at < found.length && found.at[at] != ':')
+        at++;
+    for (at += 2; at < found.length && found.at[at] >= '0' && found.at[at] <= '9'; at++)
+        used = 10 * used + (uint64_t)(found.at[at] - '0');
+    require(used > most, "a line that says that slots suffice");
+    return snprintf(line, size,
+                    "The slots used at depth %" PRIu32 " are more than can be reserved: %" PRIu64
+                    " used and %u reservable.",
+                    depth, used, most);
+}
+
+/* The line of the row for this answer of planner_check_row. */
+static int write_line(char *line, size_t size, planner_answer a, struct slice found)
+{
+    unsigned v[12];
+    if (a.number == 0)
+        return snprintf(line, size, PLANNED_LINE);
+    if (a.number == 1)
+        return snprintf(line, size, "%s", fixed_line(1, 0));
+    if (a.number == 2 && a.place > 12)
+        return snprintf(line, size, "There is text after the last value, where column %" PRIu32 " would be.", a.place);
+    if (a.number == 2)
+        return snprintf(line, size, "The value of %s is unreadable or missing.", columns[a.place - 1]);
+    read_values(now.row, v);
+    switch (a.number) {
+    case 3:
+        return snprintf(line, size, "The value of %s is outside its range: it is %u.", columns[a.place - 1],
+                        v[a.place - 1]);
+    case 4:
+        return write_at_odds(line, size, a.place, v);
+    case 5:
+        return snprintf(line, size, "A router would have more than 7 reservations: NE is %u and NR is %u.", v[4], v[3]);
+    case 6:
+        return write_routers(line, size, v);
+    default:
+        return write_slots(line, size, a.place, v, found);
+    }
+}
+
+static void check_line(const uint8_t *line, size_t length)
+{
+    char expected[LONGEST_LINE];
+    int n = write_line(expected, sizeof expected, now.check, (struct slice){line, length});
+    require(length <= PLANNER_LONGEST_REASON, "a line longer than PLANNER_LONGEST_REASON");
+    require(n > 0 && (size_t)n == length && memcmp(line, expected, length) == 0, "not the line that is due");
+}
+
+/* The line of the row that was planned last; the time that was set for that call goes on. */
+static planner_answer explain_row(const uint8_t *names, size_t names_length, const uint8_t *row, size_t row_length,
+                                  uint8_t *line, size_t line_length)
+{
+    now.line_length = line_length;
+    now.explain = planner_explain_row(names, names_length, row, row_length, line, line_length);
+    require(now.explain.length <= line_length, "a length above the lent one");
+    if (now.explain.number == 8) {
+        require(same_answer(now.explain, too_short), "a place or a length with number 8");
+        require(line_length < PLANNER_LONGEST_REASON, "PLANNER_LONGEST_REASON bytes are not enough");
+    } else {
+        require(now.explain.number == now.check.number && now.explain.place == now.check.place,
+                "planner_check_row and planner_explain_row do not agree");
+        check_line(line, (size_t)now.explain.length);
+    }
+    explained[now.explain.number]++;
+    return now.explain;
+}
+
+static void read_reason(const uint8_t *line, size_t line_length, planner_refusal expected)
+{
+    now.read = planner_read_reason(line, line_length);
+    require(now.read.number == expected.number && now.read.place == expected.place,
+            "not the refusal that the line gives the reason of");
+    lines_read++;
 }
 
 /* ---- What a text must look like, and what must be unchanged ---- */
@@ -620,12 +792,13 @@ static void noise_names(struct input *names)
 
 /* ---- A call between guard pages, made twice ---- */
 
-static struct input names_input, row_input;
+static struct input names_input, row_input, line_input;
 
-/* What a call gave. */
+/* What the calls gave. */
 struct outcome {
-    planner_answer check, plan;
+    planner_answer check, plan, explain;
     uint8_t text[PLANNER_LONGEST_TEXT];
+    uint8_t line[PLANNER_LONGEST_REASON];
 };
 
 /* Copies the input to its region and takes away the right to write there. */
@@ -639,15 +812,35 @@ static const uint8_t *hand_over(const struct region *region, const struct input 
 }
 
 /* The whole region has its filling but for the text: nothing was written before the text nor behind it. */
-static void check_rest(const uint8_t *text, size_t length, const uint8_t *fill)
+static void check_rest(const struct region *region, const uint8_t *text, size_t length, const uint8_t *fill)
 {
-    size_t before = (size_t)(text - text_region.bytes), behind = before + length;
-    require(memcmp(text_region.bytes, fill, before) == 0, "a byte before the lent text was changed");
-    require(memcmp(text_region.bytes + behind, fill + behind, text_region.size - behind) == 0,
-            length > 0 ? "a byte behind the text was changed" : "a byte was changed although the row was refused");
+    size_t before = (size_t)(text - region->bytes), behind = before + length;
+    require(memcmp(region->bytes, fill, before) == 0, "a byte before the lent memory was changed");
+    require(memcmp(region->bytes + behind, fill + behind, region->size - behind) == 0,
+            length > 0 ? "a byte behind the text was changed" : "a byte was changed although no text was due");
 }
 
-/* One call. Each of the lowest three bits of sides says of names, row and text whether it lies in front. */
+/* The row's line: in the longest room that a line needs, in its own length, and in one byte less or in none. */
+static void explain_between_guards(const uint8_t *names, const uint8_t *row, bool in_front, const uint8_t *fill,
+                                   struct outcome *outcome)
+{
+    size_t rooms[3] = {PLANNER_LONGEST_REASON, 0, 0};
+    for (size_t i = 0; i < 3; i++) {
+        uint8_t *line = spot(&line_region, rooms[i], in_front);
+        memcpy(line_region.bytes, fill, line_region.size);
+        explain_row(names, names_input.length, row, row_input.length, line, rooms[i]);
+        check_rest(&line_region, line, (size_t)now.explain.length, fill);
+        if (i == 0) {
+            outcome->explain = now.explain;
+            memcpy(outcome->line, line, (size_t)now.explain.length);
+            rooms[1] = (size_t)now.explain.length;
+            rooms[2] = below(4) == 0 ? 0 : rooms[1] - 1;
+        }
+        require(same_answer(now.explain, i < 2 ? outcome->explain : too_short), "another answer for another room");
+    }
+}
+
+/* One call. Each of the lowest three bits of sides says of names, row and text or line whether it lies in front. */
 static void call_between_guards(unsigned sides, const uint8_t *fill, size_t text_length, struct outcome *outcome)
 {
     const uint8_t *names = hand_over(&names_region, &names_input, (sides & 1) != 0);
@@ -656,12 +849,72 @@ static void call_between_guards(unsigned sides, const uint8_t *fill, size_t text
     memcpy(text_region.bytes, fill, text_region.size);
     outcome->check = check_row(names, names_input.length, row, row_input.length);
     outcome->plan = plan_row(names, names_input.length, row, row_input.length, text, text_length);
-    check_rest(text, (size_t)outcome->plan.length, fill);
+    check_rest(&text_region, text, (size_t)outcome->plan.length, fill);
     if (outcome->plan.number == 0)
         check_text(text, (size_t)outcome->plan.length);
     memcpy(outcome->text, text, (size_t)outcome->plan.length);
+    explain_between_guards(names, row, (sides & 4) != 0, fill, outcome);
     require(memcmp(names, names_input.bytes, names_input.length) == 0, "the names were changed");
     require(memcmp(row, row_input.bytes, row_input.length) == 0, "the row was changed");
+}
+
+/* Reads line_input between guard pages. */
+static void read_between_guards(bool in_front, planner_refusal expected)
+{
+    uint8_t *line = spot(&reason_region, line_input.length, in_front);
+    memcpy(line, line_input.bytes, line_input.length);
+    now.line = (struct slice){line_input.bytes, line_input.length};
+    read_reason(line, line_input.length, expected);
+    require(memcmp(line, line_input.bytes, line_input.length) == 0, "the line was changed");
+}
+
+/* Puts a digit in front of the last number in line_input. */
+static void lengthen_last_number(uint8_t digit)
+{
+    size_t start = line_input.length;
+    while (start > 0 && (line_input.bytes[start - 1] < '0' || line_input.bytes[start - 1] > '9'))
+        start--;
+    while (start > 0 && line_input.bytes[start - 1] >= '0' && line_input.bytes[start - 1] <= '9')
+        start--;
+    move_tail(&line_input, start, start + 1);
+    line_input.bytes[start] = digit;
+}
+
+/*
+ * Changes line_input, the line of a row, in one of six ways. True where it still gives the reason of the same refusal:
+ * in numbers 3 to 7 the last number is a value, which may be any, but without a leading zero. A front of a line is no
+ * reason, nor is a line with more behind it, since the last byte of each is its only period.
+ */
+static bool damage_line(uint32_t number, size_t way)
+{
+    bool has_values = number >= 3 && number <= 7;
+    if (way == 0 && has_values)
+        lengthen_last_number((uint8_t)('1' + below(9)));
+    else if (way == 1 && has_values)
+        lengthen_last_number('0');
+    else if (way == 2)
+        line_input.bytes[line_input.length++] = draw_byte();
+    else if (way == 3)
+        line_input.bytes[below(line_input.length)] |= 0x80;
+    else if (way == 4)
+        line_input.length = below(line_input.length);
+    else
+        line_input.length--;
+    return way == 0 && has_values;
+}
+
+/* The line of the row is read back, and then after a change, and so is the row itself, which is no line. */
+static void read_lines(const struct outcome *outcome, bool in_front)
+{
+    planner_refusal refusal = {outcome->explain.number, outcome->explain.place}, none = {0, 0};
+    set_input(&line_input, outcome->line, (size_t)outcome->explain.length);
+    read_between_guards(in_front, refusal);
+    if (damage_line(refusal.number, below(6)))
+        read_between_guards(in_front, refusal);
+    else
+        read_between_guards(in_front, none);
+    set_input(&line_input, row_input.bytes, row_input.length);
+    read_between_guards(in_front, none);
 }
 
 /* The same call twice: the second time at the other guard pages, and with the other filling. */
@@ -676,6 +929,9 @@ static void call_twice(unsigned sides, size_t text_length)
     require(same_answer(first.check, second.check), "planner_check_row answered the same call in two ways");
     require(same_answer(first.plan, second.plan), "planner_plan_row answered the same call in two ways");
     require(memcmp(first.text, second.text, (size_t)first.plan.length) == 0, "the same call gave two texts");
+    require(same_answer(first.explain, second.explain), "planner_explain_row answered the same call in two ways");
+    require(memcmp(first.line, second.line, (size_t)first.explain.length) == 0, "the same call gave two lines");
+    read_lines(&first, (sides & 4) != 0);
 }
 
 /* ---- Part 1: the rows of the file ---- */
@@ -706,7 +962,6 @@ static void planned_row(struct slice names, struct slice row, planner_answer pla
 {
     static uint8_t printed[PLANNER_LONGEST_TEXT];
     size_t length = (size_t)planned.length;
-    planner_answer too_short = {.number = 8, .place = 0, .length = 0};
     lend(names, row, length, planned);
     memcpy(printed, first_text, length);
     fwrite(printed, 1, length, stdout);
@@ -794,7 +1049,8 @@ static void noise(uint64_t calls)
         call_twice((unsigned)below(8), noise_length());
     }
     for (size_t number = 0; number <= 8 && calls >= 10000; number++)
-        require(answered[number] > 0, "a number that so much noise should have met was never answered");
+        require(answered[number] > 0 && explained[number] > 0,
+                "a number that so much noise should have met was never answered");
 }
 
 /* ---- Part 3: nothing handed over ---- */
@@ -806,7 +1062,7 @@ static struct slice thing(unsigned way, const void *bytes, size_t length)
     return way == 0 ? given : way == 1 ? null : guard;
 }
 
-/* No names: 1. A row without values: 2, place 1. No room for a text: 8. The first that applies. */
+/* No names: 1. A row without values: 2, place 1. No room for a text: 8. The first that applies; for a line, 8 first. */
 static planner_answer answer_to_nothing(unsigned names, unsigned row, unsigned text)
 {
     planner_answer a = {0, 0, now.check.length};
@@ -822,8 +1078,8 @@ static planner_answer answer_to_nothing(unsigned names, unsigned row, unsigned t
 static void hand_over_nothing(unsigned names_way, unsigned row_way, unsigned text_way)
 {
     static const char example[] = "8 4 1 2 1 0 0 1 1 19 7 0";
-    static uint8_t text[PLANNER_LONGEST_TEXT];
-    struct slice lent = thing(text_way, text, sizeof text);
+    static uint8_t text[PLANNER_LONGEST_TEXT], line[PLANNER_LONGEST_REASON];
+    struct slice lent = thing(text_way, text, sizeof text), lent_line = thing(text_way, line, sizeof line);
     now.call++;
     now.names = thing(names_way, NAMES, strlen(NAMES));
     now.row = thing(row_way, example, strlen(example));
@@ -835,6 +1091,28 @@ static void hand_over_nothing(unsigned names_way, unsigned row_way, unsigned tex
             "not the answer that planner.h names");
     require(memcmp(text + now.plan.length, filling[0] + now.plan.length, sizeof text - now.plan.length) == 0,
             "a byte that is not of the text was changed");
+    memcpy(line, filling[0], sizeof line);
+    explain_row(now.names.at, now.names.length, now.row.at, now.row.length, (uint8_t *)(uintptr_t)lent_line.at,
+                lent_line.length);
+    require((now.explain.number == 8) == (text_way != 0), "not the answer that planner.h names");
+    require(memcmp(line + now.explain.length, filling[0] + now.explain.length, sizeof line - now.explain.length) == 0,
+            "a byte that is not of the line was changed");
+}
+
+/* No line to read is no reason. No room for the line of a refusal: 8, but only where it has one. */
+static void hand_over_no_line(unsigned way)
+{
+    struct slice nothing = thing(way, NULL, 0);
+    now.call++;
+    now.line = nothing;
+    read_reason(nothing.at, nothing.length, (planner_refusal){0, 0});
+    for (uint32_t number = 0; number <= 20; number++) {
+        planner_answer none = {0, 0, 0};
+        now.asked = (planner_refusal){number, 0};
+        now.explain = planner_explain_refusal(number, 0, (uint8_t *)(uintptr_t)nothing.at, nothing.length);
+        require(same_answer(now.explain, fixed_line(number, 0) != NULL ? too_short : none),
+                "not the answer that planner.h names");
+    }
 }
 
 static void nothing_handed_over(void)
@@ -843,6 +1121,8 @@ static void nothing_handed_over(void)
     now.call = 0;
     for (unsigned way = 0; way < 27; way++)
         hand_over_nothing(way % 3, way / 3 % 3, way / 9);
+    hand_over_no_line(1);
+    hand_over_no_line(2);
 }
 
 /* ---- Part 4: little stack ---- */
@@ -858,16 +1138,17 @@ static void nothing_handed_over(void)
 #define WHOLE_STACK (32 * FREE_STACK)
 #define STACK_FILL 0xa5
 #define KEPT_STACK 1024 /* not filled: the filling function's own frame lies there */
-#define DEEP_ROWS 3
+#define DEEP_ROWS 4
 #define DEEP_CALLS 6000
 
 static struct deep_row {
     char row[64];
-    planner_answer expected;
+    planner_answer expected, explained;
     uint8_t text[PLANNER_LONGEST_TEXT];
+    uint8_t line[PLANNER_LONGEST_REASON];
 } deep_rows[DEEP_ROWS];
 
-static uint8_t deep_text[PLANNER_LONGEST_TEXT];
+static uint8_t deep_text[PLANNER_LONGEST_TEXT], deep_line[PLANNER_LONGEST_REASON];
 static const char *deep_failure;
 static size_t deep_free, deep_used;
 
@@ -895,11 +1176,14 @@ static void find_deepest(struct deep_row *deep)
 }
 
 /* The same call with all the stack of the main thread says what to expect. */
-static void expect_of(struct deep_row *deep, uint32_t number)
+static void expect_of(struct deep_row *deep, uint32_t number, uint32_t place)
 {
-    require(check_deep_row(deep).number == number, "a deep row is not answered as document 01 has it");
+    check_deep_row(deep);
+    require(now.check.number == number && now.check.place == place, "a deep row is not answered as document 01 has it");
     deep->expected =
         plan_row(now.names.at, now.names.length, now.row.at, now.row.length, deep->text, sizeof deep->text);
+    deep->explained =
+        explain_row(now.names.at, now.names.length, now.row.at, now.row.length, deep->line, sizeof deep->line);
 }
 
 static void make_deep_rows(void)
@@ -907,9 +1191,11 @@ static void make_deep_rows(void)
     snprintf(deep_rows[0].row, sizeof deep_rows[0].row, "14 10 12 1 6 1 0 255 3 5 1 0");
     find_deepest(&deep_rows[1]);
     snprintf(deep_rows[2].row, sizeof deep_rows[2].row, "14 1 12 2 0 1 12 255 1 5 1 0");
-    expect_of(&deep_rows[0], 0);
-    expect_of(&deep_rows[1], 0);
-    expect_of(&deep_rows[2], 7);
+    snprintf(deep_rows[3].row, sizeof deep_rows[3].row, "14 6 7 2 1 0 7 1 1 55 1 1");
+    expect_of(&deep_rows[0], 0, 0);
+    expect_of(&deep_rows[1], 0, 0);
+    expect_of(&deep_rows[2], 7, 0);
+    expect_of(&deep_rows[3], 7, 6);
 }
 
 /* Answers the lowest byte that is free. */
@@ -948,12 +1234,31 @@ static void call_deep(const struct deep_row *deep)
         answered[a.number]++;
 }
 
+/* The row's line, what is read from it, and the line of a refusal that is given by its number. */
+static void explain_deep(const struct deep_row *deep)
+{
+    planner_answer a =
+        planner_explain_row(now.names.at, now.names.length, now.row.at, now.row.length, deep_line, sizeof deep_line);
+    now.explain = a;
+    if (!same_answer(a, deep->explained) || memcmp(deep_line, deep->line, (size_t)a.length) != 0)
+        deep_failure = "with little stack the answer or the line is another";
+    else
+        explained[a.number]++;
+    now.read = planner_read_reason(deep_line, (size_t)a.length);
+    if (now.read.number != a.number || now.read.place != a.place)
+        deep_failure = "with little stack another refusal is read";
+    if (planner_explain_refusal(8, 0, deep_line, sizeof deep_line).length != strlen(fixed_line(8, 0)))
+        deep_failure = "with little stack the line of number 8 is another";
+}
+
 static void *deep_calls(void *unused)
 {
     uint8_t *frame = __builtin_frame_address(0), *low = raise_fence(frame);
     fill_stack(low, frame - KEPT_STACK);
-    for (now.call = 1; now.call <= DEEP_CALLS && deep_failure == NULL; now.call++)
+    for (now.call = 1; now.call <= DEEP_CALLS && deep_failure == NULL; now.call++) {
         call_deep(&deep_rows[now.call % DEEP_ROWS]);
+        explain_deep(&deep_rows[now.call % DEEP_ROWS]);
+    }
     deep_free = (size_t)(frame - low);
     deep_used = (size_t)(frame - lowest_changed(low, frame));
     protect(&stack_region, PROT_READ | PROT_WRITE);
@@ -988,7 +1293,56 @@ static void little_stack(void)
             DEEP_CALLS, WHOLE_STACK, deep_free);
     fprintf(stderr, "stack: %zu bytes were used, %d are allowed; the rows:\n", deep_used, FREE_STACK);
     for (size_t i = 0; i < DEEP_ROWS; i++)
-        fprintf(stderr, "stack:   %s: number %" PRIu32 "\n", deep_rows[i].row, deep_rows[i].expected.number);
+        fprintf(stderr, "stack:   %s: number %" PRIu32 ", place %" PRIu32 "\n", deep_rows[i].row,
+                deep_rows[i].expected.number, deep_rows[i].expected.place);
+}
+
+/* ---- Part 5: refusals by number and place ---- */
+
+static void explain_refusal(planner_refusal asked, size_t room, bool in_front, const uint8_t *fill)
+{
+    const char *words = fixed_line(asked.number, asked.place);
+    planner_answer expected = {0, 0, words != NULL ? strlen(words) : 0};
+    uint8_t *line = spot(&line_region, room, in_front);
+    now.call++;
+    now.asked = asked;
+    now.line_length = room;
+    memcpy(line_region.bytes, fill, line_region.size);
+    now.explain = planner_explain_refusal(asked.number, asked.place, line, room);
+    require(same_answer(now.explain, room < expected.length ? too_short : expected),
+            "not the answer that planner.h names");
+    require(now.explain.length == 0 || memcmp(line, words, strlen(words)) == 0, "not the line that is due");
+    check_rest(&line_region, line, (size_t)now.explain.length, fill);
+}
+
+/* Every length from 0 on where there is a line, else some, at both guard pages and with both fillings. */
+static void every_room(planner_refusal asked)
+{
+    size_t step = fixed_line(asked.number, asked.place) != NULL ? 1 : PLANNER_LONGEST_REASON / 4;
+    alarm(WATCH_SECONDS);
+    for (size_t room = 0; room <= PLANNER_LONGEST_REASON; room += step)
+        for (unsigned way = 0; way < 4; way++)
+            explain_refusal(asked, room, (way & 1) != 0, filling[way / 2]);
+}
+
+static void refusals(void)
+{
+    static const uint32_t large[] = {99, 255, 256, 257, 264, 65537, 0x80000001, 0xffffffff};
+    now.part = "5, refusals by number and place";
+    now.call = 0;
+    for (uint32_t number = 0; number <= 20; number++) {
+        for (uint32_t place = 0; place <= 20; place++)
+            every_room((planner_refusal){number, place});
+        for (size_t i = 0; i < sizeof large / sizeof large[0]; i++) {
+            every_room((planner_refusal){number, large[i]});
+            every_room((planner_refusal){large[i], number});
+        }
+    }
+    for (uint32_t number = 1; number <= 9; number++)
+        if (fixed_line(number, 0) != NULL) {
+            set_input(&line_input, fixed_line(number, 0), strlen(fixed_line(number, 0)));
+            read_between_guards(number % 2 == 0, (planner_refusal){number, 0});
+        }
 }
 
 /* ---- All of it ---- */
@@ -1024,6 +1378,9 @@ static void summary(void)
             answered[0]);
     for (size_t number = 1; number <= 8; number++)
         fprintf(stderr, "%s %zu: %" PRIu64, number > 1 ? "," : "", number, answered[number]);
+    fprintf(stderr, "\nsummary: lines read %" PRIu64 ", lines put by number", lines_read);
+    for (size_t number = 0; number <= 8; number++)
+        fprintf(stderr, "%s %zu: %" PRIu64, number > 0 ? "," : "", number, explained[number]);
     fprintf(stderr, "\n");
 }
 
@@ -1043,12 +1400,15 @@ int main(int argc, char **argv)
     make_region(&names_region, LONGEST_FILE);
     make_region(&row_region, LONGEST_FILE);
     make_region(&text_region, LONGEST_LOAN);
+    make_region(&line_region, LONGEST_LINE);
+    make_region(&reason_region, LONGEST_FILE);
     make_fillings(text_region.size);
     catch_signals();
     rows_of_file();
     noise(calls);
     nothing_handed_over();
     little_stack();
+    refusals();
     summary();
     return 0;
 }

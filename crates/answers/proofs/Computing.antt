@@ -1,8 +1,8 @@
 -- To unfold `answered` is to unfold all that the answer to a row's bytes is computed with. Assumes nothing.
 use Rattle.decimal.specs.Ascii.{ascii}
 use Rattle.decimal.specs.Number.{digits, zeroLed, shaped, readable, spelledAfter}
-use Rattle.lines.specs.Text.{before, pieces, fields, joined}
-use Rattle.row.specs.Names.{nameLine, same, isNameLine}
+use Rattle.lines.specs.Text.{same, before, pieces, fields, joined}
+use Rattle.row.specs.Names.{nameLine, isNameLine}
 use Rattle.row.specs.Rows.{named, written, valuesIn, settingsOf}
 use Rattle.balanced.proofs.Computing.{plans}
 use Rattle.answers.specs.Outcomes.{spelledSettings, rowConditions, rowOutcome, namedOutcome}

@@ -1,14 +1,14 @@
 -- Numbers 9 and 1 of an input, and the text of a row, as code finds them. Assumes nothing.
 use mathlib.Core.Path.{_≡_, refl, ap, ap₂, sym, _∙_}
 use mathlib.Core.Bool.{Bool, true, false}
-use mathlib.Core.List.{List, [], _∷_}
+use mathlib.Core.List.{List, [], _∷_, _++_}
 use Prim.Native.Nat.{ℕ, _≤_, _<_}
 use lib.ListN.{length, getD}
 use borrow.Author.Tests.{lt-ltb, le-ltb}
 use Rattle.lines.specs.declared.Cursor.{Cursor}
 use Rattle.lines.specs.declared.Line.the-variants.{Found, Nothing}
 use Rattle.decimal.specs.Ascii.{ascii}
-use Rattle.lines.specs.Text.{joined, lines, lineAt, partOf}
+use Rattle.lines.specs.Text.{same, joined, lines, ended, lineAt, partOf}
 use Rattle.lines.proofs.LawsHold.{found-advances, nothing-is-left}
 use Rattle.refusals.specs.declared.Refusal.{Refusal}
 use Rattle.refusals.specs.declared.Refusal.the-variants.{Names, InputTooLong}
@@ -16,7 +16,7 @@ use Rattle.refusals.specs.declared.Verdict.the-variants.{Kept, Broken}
 use Rattle.refusals.specs.Conditions.{condition, firstBroken}
 use Rattle.refusals.proofs.Answering.{verdict, broken-kept, answer-broken, answer-kept}
 use Rattle.settings.specs.Columns.{table}
-use Rattle.row.specs.Names.{isNameLine, same, nameLine}
+use Rattle.row.specs.Names.{isNameLine, nameLine}
 use Rattle.row.specs.Rows.{named}
 use Rattle.balanced.specs.Outcome.{Outcome, Planned, Refused}
 use Rattle.planner.specs.declared.Plan.{Plan}
@@ -24,7 +24,10 @@ use Rattle.planner.specs.Plans.{planned, refused, answer, written}
 use Rattle.planner.proofs.Answers.{answered-length}
 use Rattle.answers.proofs.Answering.{answer-refused}
 use Rattle.report.specs.Text.{refusalText}
-use Rattle.batch.specs.Output.{printed, tooLong, inputConditions}
+use Rattle.reasons.specs.Reasons.{spoken}
+use Rattle.batch.specs.declared.Style.{Style}
+use Rattle.batch.specs.declared.Style.the-variants.{Plans, Reasons}
+use Rattle.batch.specs.Output.{printed, refusalPrinted, tooLong, inputConditions}
 use Rattle.batch.specs.Steps.{rowsFrom, Step, behind, opening}
 
 -- a first step that prints these bytes, with the rows from there on
@@ -63,15 +66,16 @@ module _ (input : List ℕ) where
       unfolding firstBroken named
       other-names n = sym (by-names (partOf input from end) first-line ∙ rw n)
 
+module _ (s : Style) (input : List ℕ) where
   -- the first step
   pub opening-refused : (r : Refusal) → verdict (inputConditions input) ≡ Broken r
-      → opening input ≡ record { bytes = refusalText r; next = rowsFrom (length input); more = true }
+      → opening s input ≡ record { bytes = refusalPrinted s r; next = rowsFrom (length input); more = true }
   unfolding opening
   opening-refused r v =
-      ap₂ opened (answer-broken refusalText _ (inputConditions input) r v) (answer-broken (λ x. length input) _ (inputConditions input) r v)
+      ap₂ opened (answer-broken (refusalPrinted s) _ (inputConditions input) r v) (answer-broken (λ x. length input) _ (inputConditions input) r v)
 
   pub opening-named : verdict (inputConditions input) ≡ Kept
-      → opening input ≡ record { bytes = []; next = rowsFrom (behind (lineAt input 0)); more = true }
+      → opening s input ≡ record { bytes = []; next = rowsFrom (behind (lineAt input 0)); more = true }
   unfolding opening
   opening-named v =
       ap₂ opened (answer-kept _ [] (inputConditions input) v) (answer-kept _ (behind (lineAt input 0)) (inputConditions input) v)
@@ -82,7 +86,7 @@ module _ (o : Outcome) (plan : Plan) (e : plan ≡ answer o) where
   told = ap (λ (p : Plan). p .verdict) e
 
   -- refused: nothing was put, and the refusal is
-  pub row-refused : (r : Refusal) → plan .verdict ≡ Broken r → refusalText r ≡ printed o
+  pub row-refused : (r : Refusal) → plan .verdict ≡ Broken r → refusalText r ≡ printed Plans o
   unfolding printed
   row-refused r v = rw (answer-refused o r (sym told ∙ v)) refl
 
@@ -91,13 +95,24 @@ module _ (o : Outcome) (plan : Plan) (e : plan ≡ answer o) where
   row-none r v = rw (answer-refused o r (sym told ∙ v)) refl
 
   -- planned: the text was put
-  kept-printed : (x : Outcome) → answer x .verdict ≡ Kept → written x ≡ printed x
+  kept-printed : (x : Outcome) → answer x .verdict ≡ Kept → written x ≡ printed Plans x
   unfolding answer planned refused written printed
   kept-printed (Planned p) v = refl
   kept-printed (Refused r) v = broken-kept r v
 
-  pub row-planned : plan .verdict ≡ Kept → written o ≡ printed o
+  pub row-planned : plan .verdict ≡ Kept → written o ≡ printed Plans o
   row-planned v = kept-printed o (sym told ∙ v)
 
   pub row-length : plan .length ≡ length (written o)
   row-length = ap (λ (p : Plan). p .length) e ∙ answered-length o
+
+-- a row's line, by its verdict
+pub spoken-verdict : (o : Outcome) → ended (spoken (answer o .verdict) ∷ []) ≡ printed Reasons o
+unfolding printed answer planned refused
+spoken-verdict (Planned p) = refl
+spoken-verdict (Refused r) = refl
+
+-- a text and its LF
+pub ended-one : (t : List ℕ) → ended (t ∷ []) ≡ t ++ 10 ∷ []
+unfolding ended
+ended-one t = refl

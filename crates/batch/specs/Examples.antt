@@ -4,8 +4,10 @@ use mathlib.Core.Path.{_≡_}
 use mathlib.Core.List.{List, [], _∷_, map}
 use Prim.Native.Nat.{ℕ}
 use Prim.Native.String.{String}
+use lib.ListN.{getD}
 use Rattle.decimal.specs.Ascii.{ascii}
 use Rattle.lines.specs.Text.{ended}
+use Rattle.batch.specs.declared.Style.the-variants.{Plans, Reasons}
 use Rattle.batch.specs.Output.{output}
 
 -- what an example is of, its row, and the lines that document 01 prints or states
@@ -47,7 +49,7 @@ examples =
 
 -- what is printed for the name line and that row
 unfoldable pub ours : Example → List ℕ
-ours e = output (ended (ascii "BO SO H NR NE OWN SINK BURST RATE HEAD DATA ACK" ∷ ascii (e .row) ∷ []))
+ours e = output Plans (ended (ascii "BO SO H NR NE OWN SINK BURST RATE HEAD DATA ACK" ∷ ascii (e .row) ∷ []))
 
 -- the theorem; proofs/ExamplesHold proves it by computing both sides
 unfoldable pub ExamplesHold : Type 0
@@ -55,9 +57,39 @@ ExamplesHold = map ours examples ≡ map (λ e. ended (map ascii (e .stated))) e
 
 -- the whole input: the name line alone, a text without one, rows behind a refused one, a last row without its LF
 pub record InputsHold : Type 0 where
-  pub namesAlone : output (ascii "BO SO H NR NE OWN SINK BURST RATE HEAD DATA ACK\n") ≡ []
-  pub namesWithoutEnd : output (ascii "BO SO H NR NE OWN SINK BURST RATE HEAD DATA ACK") ≡ []
-  pub empty : output [] ≡ ascii "R 1 0\n"
-  pub noNames : output (ascii "8 4 1 2 1 0 0 1 1 19 7 0\n8 4 1 2 1 0 0 1 1 19 7 0\n") ≡ ascii "R 1 0\n"
-  pub several : output (ascii "BO SO H NR NE OWN SINK BURST RATE HEAD DATA ACK\n08 4 1 2 1 0 0 1 1 19 7 0\n\n0 0 0 0 4 0 0 1 1 19 7 0\n0 0 0 0 5 0 0 1 1 19 7 0")
+  pub namesAloneExplained : output Reasons (ascii "BO SO H NR NE OWN SINK BURST RATE HEAD DATA ACK\n") ≡ []
+  pub emptyExplained : output Reasons [] ≡ ascii "The line of names differs or is missing.\n"
+  pub namesAlone : output Plans (ascii "BO SO H NR NE OWN SINK BURST RATE HEAD DATA ACK\n") ≡ []
+  pub namesWithoutEnd : output Plans (ascii "BO SO H NR NE OWN SINK BURST RATE HEAD DATA ACK") ≡ []
+  pub empty : output Plans [] ≡ ascii "R 1 0\n"
+  pub noNames : output Plans (ascii "8 4 1 2 1 0 0 1 1 19 7 0\n8 4 1 2 1 0 0 1 1 19 7 0\n") ≡ ascii "R 1 0\n"
+  pub several : output Plans (ascii "BO SO H NR NE OWN SINK BURST RATE HEAD DATA ACK\n08 4 1 2 1 0 0 1 1 19 7 0\n\n0 0 0 0 4 0 0 1 1 19 7 0\n0 0 0 0 5 0 0 1 1 19 7 0")
       ≡ ascii "R 2 1\nR 2 1\nKIND DEPTH RATE BURST SLOTS FRAMES LATENCY BUFFER DELAY\nE 0 1 960 2 1 1064 3 2024\nS 0 4 8096 0 0 0 9 2024\nR 7 0\n"
+
+-- a row that is refused with each of numbers 2 to 7, each place of 4, and one that is planned, and the line of each (document 02, E1)
+unfoldable pub reasons : List Example
+reasons =
+    refused "2" "08 4 1 2 1 0 0 1 1 19 7 0" "The value of BO is unreadable or missing."
+    ∷ refused "2, a value missing" "8 4 1" "The value of NR is unreadable or missing."
+    ∷ refused "2, text after the last" "8 4 1 2 1 0 0 1 1 19 7 0 0" "There is text after the last value, where column 13 would be."
+    ∷ refused "3" "8 4 1 2 1 0 0 0 1 19 7 0" "The value of BURST is outside its range: it is 0."
+    ∷ refused "4, place 2" "4 8 1 2 1 0 0 1 1 19 7 0" "Values are at odds at SO, which may not be above BO: SO is 8 and BO is 4."
+    ∷ refused "4, place 4" "8 4 1 0 1 0 0 1 1 19 7 0" "Values are at odds at NR, which is 0 exactly where H is 0: NR is 0 and H is 1."
+    ∷ refused "4, place 4, the other way" "8 4 0 2 1 0 0 1 1 19 7 0" "Values are at odds at NR, which is 0 exactly where H is 0: NR is 2 and H is 0."
+    ∷ refused "4, place 5" "8 4 1 2 0 0 0 1 1 19 7 0" "Values are at odds at NE, since nothing senses: NE is 0 and OWN is 0."
+    ∷ refused "4, place 7" "8 4 1 2 1 0 2 1 1 19 7 0" "Values are at odds at SINK, which may not be above H: SINK is 2 and H is 1."
+    ∷ refused "4, place 7, the other" "8 4 1 1 1 0 1 1 1 19 7 0" "Values are at odds at SINK, which is 0 where NR is below 2: SINK is 1 and NR is 1."
+    ∷ refused "4, place 7, both" "8 4 1 1 1 0 2 1 1 19 7 0" "Values are at odds at SINK, which may not be above H: SINK is 2 and H is 1."
+    ∷ refused "4, place 11" "8 4 1 2 1 0 0 1 1 126 2 0" "Values are at odds at DATA, which with HEAD may not be above 127: HEAD is 126 and DATA is 2."
+    ∷ refused "5" "8 4 1 5 4 0 0 1 1 19 7 0" "A router would have more than 7 reservations: NE is 4 and NR is 5."
+    ∷ refused "6" "5 4 1 2 1 0 0 1 1 19 7 0" "There are more routers than superframes that fit a beacon interval: 3 against 2."
+    ∷ refused "7" "0 0 0 0 5 0 0 1 1 19 7 0" "The slots used at depth 0 are more than can be reserved: 10 used and 8 reservable."
+    ∷ refused "planned" "8 4 1 2 1 0 0 1 1 19 7 0" "The row is planned."
+    ∷ []
+
+-- the theorem; proofs/ExamplesHold proves it by computing both sides. One input has all these rows.
+unfoldable pub explained : List ℕ
+explained = output Reasons (ended (ascii "BO SO H NR NE OWN SINK BURST RATE HEAD DATA ACK" ∷ map (λ e. ascii (e .row)) reasons))
+
+unfoldable pub ReasonsHold : Type 0
+ReasonsHold = explained ≡ ended (map (λ e. ascii (getD (e .stated) 0 "")) reasons)

@@ -3,24 +3,35 @@ use Prim.Native.Nat.{ℕ}
 use mathlib.Core.List.{List, [], _∷_, _++_}
 use lib.Dec.{ltb}
 use lib.ListN.{length, getD, drop}
-use Rattle.lines.specs.Text.{lines}
+use Rattle.lines.specs.Text.{lines, ended}
 use Rattle.refusals.specs.declared.Refusal.{Refusal}
 use Rattle.refusals.specs.declared.Refusal.the-variants.{InputTooLong}
+use Rattle.refusals.specs.declared.Verdict.the-variants.{Kept, Broken}
 use Rattle.refusals.specs.Conditions.{Condition, condition, firstBroken}
 use Rattle.row.specs.Rows.{named}
 use Rattle.balanced.specs.Outcome.{Outcome, Planned, Refused}
 use Rattle.answers.specs.Outcomes.{rowOutcome}
 use Rattle.report.specs.Text.{text, refusalText}
+use Rattle.reasons.specs.Reasons.{spoken}
+use Rattle.batch.specs.declared.Style.{Style}
+use Rattle.batch.specs.declared.Style.the-variants.{Plans, Reasons}
 
--- a row's plan; "A refused row prints `R`, number and place instead"
-unfoldable pub printed : Outcome → List ℕ
-printed (Planned p) = text p
-printed (Refused r) = refusalText r
+-- what is printed for a row. Plans: its plan; "A refused row prints `R`, number and place instead". Reasons (document 02, E1): one line
+-- of English, that it is planned or why it is refused.
+unfoldable pub printed : Style → Outcome → List ℕ
+printed Plans (Planned p) = text p
+printed Plans (Refused r) = refusalText r
+printed Reasons (Planned p) = ended (spoken Kept ∷ [])
+printed Reasons (Refused r) = ended (spoken (Broken r) ∷ [])
+
+-- and for a refusal
+abbrev pub refusalPrinted : Style → Refusal → List ℕ
+refusalPrinted s r = printed s (Refused r)
 
 -- rows, one behind another: "after another refusal the next row is taken"
-unfoldable pub rowsPrinted : List (List ℕ) → List ℕ
-rowsPrinted [] = []
-rowsPrinted (r ∷ rs) = printed (rowOutcome r) ++ rowsPrinted rs
+unfoldable pub rowsPrinted : Style → List (List ℕ) → List ℕ
+rowsPrinted s [] = []
+rowsPrinted s (r ∷ rs) = printed s (rowOutcome r) ++ rowsPrinted s rs
 
 -- number 9: "program's input over 65,536 bytes"
 unfoldable pub tooLong : List ℕ → List (Condition Refusal)
@@ -31,5 +42,5 @@ unfoldable pub inputConditions : List ℕ → List (Condition Refusal)
 inputConditions input = tooLong input ++ named (getD (lines input) 0 [])
 
 -- all that is printed: "After 1 or 9 one `R` line is all", else the rows behind the name line
-unfoldable pub output : List ℕ → List ℕ
-output input = firstBroken refusalText (rowsPrinted (drop 1 (lines input))) (inputConditions input)
+unfoldable pub output : Style → List ℕ → List ℕ
+output s input = firstBroken (refusalPrinted s) (rowsPrinted s (drop 1 (lines input))) (inputConditions input)

@@ -8,10 +8,10 @@ use Rattle.lines.specs.declared.Line.the-variants.{Found, Nothing}
 use Rattle.lines.specs.Text.{lineAt, partOf}
 use Rattle.refusals.specs.Conditions.{firstBroken}
 use Rattle.answers.specs.Outcomes.{rowOutcome}
-use Rattle.report.specs.Text.{refusalText}
+use Rattle.batch.specs.declared.Style.{Style}
 use Rattle.batch.specs.declared.Progress.{Progress}
 use Rattle.batch.specs.declared.Piece.{Piece}
-use Rattle.batch.specs.Output.{printed, inputConditions}
+use Rattle.batch.specs.Output.{printed, refusalPrinted, inputConditions}
 
 -- nothing printed yet
 unfoldable pub start : Progress
@@ -33,30 +33,30 @@ behind (Found start end next) = next .at
 behind Nothing = 0
 
 -- the first step: the refusal of the input, behind which nothing follows, or the name line, for which nothing is printed
-unfoldable pub opening : List ℕ → Step
-opening input = record {
-  bytes = firstBroken refusalText [] (inputConditions input);
+unfoldable pub opening : Style → List ℕ → Step
+opening s input = record {
+  bytes = firstBroken (refusalPrinted s) [] (inputConditions input);
   next = rowsFrom (firstBroken (λ r. length input) (behind (lineAt input 0)) (inputConditions input));
   more = true;
 }
 
 -- a further step: the row at a position, where there is one
-unfoldable pub rowAt : List ℕ → ℕ → Line → Step
-rowAt input at (Found start end next) = record {
-  bytes = printed (rowOutcome (partOf input start end));
+unfoldable pub rowAt : Style → List ℕ → ℕ → Line → Step
+rowAt s input at (Found start end next) = record {
+  bytes = printed s (rowOutcome (partOf input start end));
   next = rowsFrom (next .at);
   more = true;
 }
-rowAt input at Nothing = record { bytes = []; next = rowsFrom at; more = false }
+rowAt s input at Nothing = record { bytes = []; next = rowsFrom at; more = false }
 
-unfoldable pub step : List ℕ → Progress → Step
-step input p = cond (p .begun) (rowAt input (p .at) (lineAt input (p .at))) (opening input)
+unfoldable pub step : Style → List ℕ → Progress → Step
+step s input p = cond (p .begun) (rowAt s input (p .at) (lineAt input (p .at))) (opening s input)
 
 -- the answer to a step
 unfoldable pub piece : Step → Piece
 piece s = record { length = length (s .bytes); next = s .next; more = s .more }
 
 -- what is printed in at most n steps
-unfoldable pub printedFrom : ℕ → List ℕ → Progress → List ℕ
-printedFrom zero input p = []
-printedFrom (suc n) input p = cond (step input p .more) (step input p .bytes ++ printedFrom n input (step input p .next)) []
+unfoldable pub printedFrom : Style → ℕ → List ℕ → Progress → List ℕ
+printedFrom s zero input p = []
+printedFrom s (suc n) input p = cond (step s input p .more) (step s input p .bytes ++ printedFrom s n input (step s input p .next)) []

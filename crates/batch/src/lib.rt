@@ -1,29 +1,41 @@
-// A whole input, name line and rows, and what is printed for it (document 01, 'The printed plan'): piece by piece, so that a program
-// can write each before the next is made.
+// A whole input, name line and rows, and what is printed for it (document 01, 'The printed plan'; document 02, E1): piece by piece, so
+// that a program can write each before the next is made.
 //
 // No public function has a `requires`: each answers every argument, as equations with definitions of specs/ say.
 ghost use mathlib.Core.Path.{_≡_};
 ghost use Prim.Native.Nat.{_≤_};
 ghost use lib.ListN.{length};
 ghost use lib.Seq.{sets};
-ghost use Rattle.lines.specs.Text.{lineAt};
+ghost use mathlib.Core.List.{[], _∷_};
+ghost use Rattle.lines.specs.Text.{lineAt, ended};
 ghost use Rattle.refusals.specs.declared.Verdict.the-variants.{Kept, Broken};
 ghost use Rattle.refusals.specs.Conditions.{firstBroken};
 ghost use Rattle.answers.specs.Outcomes.{rowOutcome};
-ghost use Rattle.batch.specs.Output.{inputConditions, printed};
+ghost use Rattle.reasons.specs.Reasons.{spoken};
+ghost use Rattle.batch.specs.declared.Style.the-variants.{Plans, Reasons};
+ghost use Rattle.batch.specs.Output.{inputConditions, printed, refusalPrinted};
 ghost use Rattle.batch.specs.Steps.{start, rowsFrom, behind, opening, rowAt, step, piece};
 use answers::plan_row;
+use buffer::put_byte;
 use lines::Cursor;
 use lines::Line;
 use lines::next_line;
 use lines::part;
+use reasons::put_verdict;
 use refusals::Refusal;
 use refusals::Verdict;
+use report::LONGEST;
 use report::put_refusal;
 use row::names_match;
 
 // No input may be longer.
 const LIMIT: usize = 65536;
+
+// What is printed for a row: its plan or an R line, or one line of English.
+pub enum Style {
+    Plans,
+    Reasons,
+}
 
 // How far an input was printed: nothing yet, or all before the row that starts at `at`.
 pub struct Progress {
@@ -49,26 +61,26 @@ pub fn begin() -> Progress
 }
 
 // Puts the next piece of the output at the front of lent memory, as far as there is room: 4,476 bytes are always enough.
-pub fn next_piece(input: &[u8], from: Progress, out: &mut [u8]) -> Piece
-    ensures { λ r. ⌜ r ≡ piece (step (now (input .entry)) from) ⌝ }
+pub fn next_piece(style: Style, input: &[u8], from: Progress, out: &mut [u8]) -> Piece
+    ensures { λ r. ⌜ r ≡ piece (step style (now (input .entry)) from) ⌝ }
     ensures { λ r. ⌜ r .length ≤ 4476 ⌝ }
-    ensures { λ _. ⌜ now (out .exit) ≡ sets (now (out .entry)) 0 (step (now (input .entry)) from .bytes) ⌝ }
+    ensures { λ _. ⌜ now (out .exit) ≡ sets (now (out .entry)) 0 (step style (now (input .entry)) from .bytes) ⌝ }
 {
     if from.begun {
-        return next_row(input, from.at, out);
+        return next_row(style, input, from.at, out);
     }
-    open(input, out)
+    open(style, input, out)
 }
 
 // The refusal of the input with number 9 or 1, or nothing for its name line.
-fn open(input: &[u8], out: &mut [u8]) -> Piece
-    ensures { λ r. ⌜ r ≡ piece (opening (now (input .entry))) ⌝ }
+fn open(style: Style, input: &[u8], out: &mut [u8]) -> Piece
+    ensures { λ r. ⌜ r ≡ piece (opening style (now (input .entry))) ⌝ }
     ensures { λ r. ⌜ r .length ≤ 4476 ⌝ }
-    ensures { λ _. ⌜ now (out .exit) ≡ sets (now (out .entry)) 0 (opening (now (input .entry)) .bytes) ⌝ }
+    ensures { λ _. ⌜ now (out .exit) ≡ sets (now (out .entry)) 0 (opening style (now (input .entry)) .bytes) ⌝ }
 {
     let verdict = check_input(input);
     if let Verdict::Broken(refusal) = verdict {
-        let length = put_refusal(out, refusal);
+        let length = put_refused(style, refusal, out);
         return Piece {
             length,
             next: rows_from(input.len()),
@@ -105,10 +117,10 @@ fn check_input(input: &[u8]) -> Verdict
 }
 
 // The plan or the refusal of the row at a position, where there is one.
-fn next_row(input: &[u8], at: usize, out: &mut [u8]) -> Piece
-    ensures { λ r. ⌜ r ≡ piece (rowAt (now (input .entry)) at (lineAt (now (input .entry)) at)) ⌝ }
+fn next_row(style: Style, input: &[u8], at: usize, out: &mut [u8]) -> Piece
+    ensures { λ r. ⌜ r ≡ piece (rowAt style (now (input .entry)) at (lineAt (now (input .entry)) at)) ⌝ }
     ensures { λ r. ⌜ r .length ≤ 4476 ⌝ }
-    ensures { λ _. ⌜ now (out .exit) ≡ sets (now (out .entry)) 0 (rowAt (now (input .entry)) at (lineAt (now (input .entry)) at) .bytes) ⌝ }
+    ensures { λ _. ⌜ now (out .exit) ≡ sets (now (out .entry)) 0 (rowAt style (now (input .entry)) at (lineAt (now (input .entry)) at) .bytes) ⌝ }
 {
     let line = next_line(input, Cursor { at });
     let Line::Found { start, end, next } = line else {
@@ -118,7 +130,7 @@ fn next_row(input: &[u8], at: usize, out: &mut [u8]) -> Piece
             more: false,
         };
     };
-    let length = put_row(part(input, start, end), out);
+    let length = put_row(style, part(input, start, end), out);
     Piece {
         length,
         next: rows_from(next.at),
@@ -126,11 +138,58 @@ fn next_row(input: &[u8], at: usize, out: &mut [u8]) -> Piece
     }
 }
 
-// What is printed for a row.
-fn put_row(row: &[u8], out: &mut [u8]) -> usize
-    ensures { λ r. ⌜ r ≡ length (printed (rowOutcome (now (row .entry)))) ⌝ }
+// What is printed for a refusal.
+fn put_refused(style: Style, refusal: Refusal, out: &mut [u8]) -> usize
+    ensures { λ r. ⌜ r ≡ length (refusalPrinted style refusal) ⌝ }
     ensures { λ r. ⌜ r ≤ 4476 ⌝ }
-    ensures { λ _. ⌜ now (out .exit) ≡ sets (now (out .entry)) 0 (printed (rowOutcome (now (row .entry)))) ⌝ }
+    ensures { λ _. ⌜ now (out .exit) ≡ sets (now (out .entry)) 0 (refusalPrinted style refusal) ⌝ }
+{
+    match style {
+        Style::Plans => put_refusal(out, refusal),
+        Style::Reasons => put_spoken(Verdict::Broken(refusal), out),
+    }
+}
+
+// A line of English and its LF.
+fn put_spoken(verdict: Verdict, out: &mut [u8]) -> usize
+    ensures { λ r. ⌜ r ≡ length (ended (spoken verdict ∷ [])) ⌝ }
+    ensures { λ r. ⌜ r ≤ 4476 ⌝ }
+    ensures { λ _. ⌜ now (out .exit) ≡ sets (now (out .entry)) 0 (ended (spoken verdict ∷ [])) ⌝ }
+{
+    let n = put_verdict(out, verdict);
+    put_byte(out, n, 0, 10);
+    n + 1
+}
+
+// What is printed for a row.
+fn put_row(style: Style, row: &[u8], out: &mut [u8]) -> usize
+    ensures { λ r. ⌜ r ≡ length (printed style (rowOutcome (now (row .entry)))) ⌝ }
+    ensures { λ r. ⌜ r ≤ 4476 ⌝ }
+    ensures { λ _. ⌜ now (out .exit) ≡ sets (now (out .entry)) 0 (printed style (rowOutcome (now (row .entry)))) ⌝ }
+{
+    match style {
+        Style::Plans => put_plan(row, out),
+        Style::Reasons => put_reason(row, out),
+    }
+}
+
+// The line of a row. Its plan is made apart and left there.
+fn put_reason(row: &[u8], out: &mut [u8]) -> usize
+    ensures { λ r. ⌜ r ≡ length (printed Reasons (rowOutcome (now (row .entry)))) ⌝ }
+    ensures { λ r. ⌜ r ≤ 4476 ⌝ }
+    ensures { λ _. ⌜ now (out .exit) ≡ sets (now (out .entry)) 0 (printed Reasons (rowOutcome (now (row .entry)))) ⌝ }
+{
+    let mut space = [0u8; LONGEST];
+    let plan = plan_row(row, &mut space);
+    let verdict = plan.verdict;
+    put_spoken(verdict, out)
+}
+
+// The plan of a row, or its R line.
+fn put_plan(row: &[u8], out: &mut [u8]) -> usize
+    ensures { λ r. ⌜ r ≡ length (printed Plans (rowOutcome (now (row .entry)))) ⌝ }
+    ensures { λ r. ⌜ r ≤ 4476 ⌝ }
+    ensures { λ _. ⌜ now (out .exit) ≡ sets (now (out .entry)) 0 (printed Plans (rowOutcome (now (row .entry)))) ⌝ }
 {
     let plan = plan_row(row, out);
     let verdict = plan.verdict;

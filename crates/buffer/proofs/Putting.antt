@@ -1,10 +1,10 @@
 -- Bytes put one behind another, and all at once. Assumes nothing.
-use mathlib.Core.Path.{_≡_, refl, ap, _∙_}
+use mathlib.Core.Path.{_≡_, refl, ap, sym, _∙_}
 use mathlib.Core.List.{List, [], _∷_, _++_, append-nil, append-assoc}
 use Prim.Native.Nat.{ℕ, suc, _+_, _-_, _≤_, _<_}
 use native.Mathlib.Omega.{arith}
 use lib.ListN.{length, getD, take, drop, set, length-drop, drop-of-length-le}
-use lib.Seq.{sets, sets-eq, set-comm, take-suc, take-all, take-length, drop-drop, length-take-le}
+use lib.Seq.{sets, sets-eq, set-comm, take-suc, take-all, take-length, take-at, drop-drop, length-take-le}
 
 -- bytes put behind bytes are both put
 pub sets-sets : (e : List ℕ) (at : ℕ) (t u : List ℕ) → sets (sets e at t) (at + length t) u ≡ sets e at (t ++ u)
@@ -43,6 +43,10 @@ pub sets-front : (e t : List ℕ) → length t ≤ length e → sets e 0 t ≡ t
 sets-front e t h =
     let z : 0 + length t ≡ length t = omega arith in
     rw z at (sets-eq t e 0 (omega arith))
+
+-- and what is found there then
+pub put-front : (space e t : List ℕ) (n : ℕ) → n ≡ length t → n ≤ length e → space ≡ sets e 0 t → take n space ≡ t
+put-front space e t n q h w = rw (w, sets-front e t (omega (arith, q))) (take-at t (drop (length t) e) n (sym q))
 
 -- bytes copied to the front of what lies behind a position, where there is room for all; p is what lies there then
 pub sets-copied : (e : List ℕ) (at : ℕ) (t p : List ℕ) → at ≤ length e → length t ≤ length e - at

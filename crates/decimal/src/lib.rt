@@ -52,7 +52,7 @@ fn is_shaped(s: &[u8]) -> bool
 }
 
 // An ASCII digit, 0 to 9.
-fn is_digit(b: u8) -> bool
+pub fn is_digit(b: u8) -> bool
     ensures { λ r. ⌜ r ≡ digit b ⌝ }
 {
     if b < 48 {

@@ -1,4 +1,6 @@
 -- Laws about the definitions of specs/. Assumes nothing.
+-- texts that are the same
+pub mod Sameness
 -- bytes cut into pieces, from the first cut on
 pub mod Cutting
 -- the line at a position

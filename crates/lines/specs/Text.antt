@@ -7,6 +7,13 @@ use lib.ListN.{length, take, drop}
 use Rattle.lines.specs.declared.Line.{Line}
 use Rattle.lines.specs.declared.Line.the-variants.{Found, Nothing}
 
+-- two texts are the same, byte by byte
+unfoldable pub same : List ℕ → List ℕ → Bool
+same [] [] = true
+same [] (c ∷ cs) = false
+same (b ∷ bs) [] = false
+same (b ∷ bs) (c ∷ cs) = eqb b c && same bs cs
+
 -- pieces of bytes with one byte more in front: it ends a piece that is empty so far, or stands first in the first piece
 unfoldable pub before : Bool → ℕ → List (List ℕ) → List (List ℕ)
 before true b ps = [] ∷ ps

@@ -1,5 +1,6 @@
 // The program: rows of settings from standard input, plans and refusals to standard output (document 01, 'The printed plan'). What is
 // printed is decided in `batch`; here it is read and written alone.
+use batch::Style;
 use batch::begin;
 use batch::next_piece;
 use libc::STDIN_FILENO;
@@ -18,7 +19,7 @@ fn print(input: &[u8]) {
     let mut out = [0u8; LONGEST];
     let mut progress = begin();
     loop {
-        let piece = next_piece(input, progress, &mut out);
+        let piece = next_piece(Style::Plans, input, progress, &mut out);
         if !piece.more {
             return;
         }

@@ -1,15 +1,16 @@
 -- The examples of specs/Examples, computed. Assumes nothing.
 use mathlib.Core.Path.{refl}
-use Rattle.decimal.specs.Decimal.{digitsBy, decimal}
 use Rattle.lines.specs.Text.{ended}
-use Rattle.refusals.specs.Refusals.{numberOf, placeOf}
 use Rattle.answers.proofs.Computing.{answered}
 use Rattle.report.specs.Text as report
+use Rattle.planner.specs.Plans as planner
+use Rattle.reasons.proofs.Computing.{worded, taken-in}
 use Rattle.planner_c.specs.Entries.{told, filled, room, entryOutcome, planRow, checkRow}
-use Rattle.planner_c.specs.Examples.{lent, text, call, planned, refused, Examples}
+use Rattle.planner_c.specs.Reasons.{lineLeft, rowLine, explainRow, plain, lineAmong, explainRefusal, numbered}
+use Rattle.planner_c.specs.Examples.{lent, text, call, planned, refused, Examples, line, explained, Spoken}
 
 pub examples-hold : Examples
-unfolding answered digitsBy decimal ended numberOf placeOf report.header report.numbers report.lineText report.text told filled room entryOutcome planRow checkRow lent text call planned refused
+unfolding answered worded ended report.header report.numbers report.lineText report.text told filled room entryOutcome planRow checkRow lent text call planned refused
 examples-hold = record {
   check = refl;
   exact = refl;
@@ -21,4 +22,24 @@ examples-hold = record {
   seven = refl;
   sevenBeforeEight = refl;
   oneBeforeEight = refl;
+}
+
+pub spoken-hold : Spoken
+unfolding answered taken-in told planner.planned planner.refused planner.answer lineLeft rowLine explainRow plain lineAmong explainRefusal numbered lent line explained
+spoken-hold = record {
+  exact = refl;
+  more = refl;
+  oneLess = refl;
+  none = refl;
+  planned = refl;
+  plannedShort = refl;
+  noNames = refl;
+  one = refl;
+  eight = refl;
+  nine = refl;
+  nineShort = refl;
+  eightElsewhere = refl;
+  seven = refl;
+  read = refl;
+  readNone = refl;
 }

@@ -6,7 +6,7 @@ use native.Mathlib.Omega.{arith}
 use lib.ListN.{length, drop, length-append, length-drop}
 use lib.Seq.{take-append-seam}
 use Rattle.refusals.specs.declared.Refusal.{Refusal}
-use Rattle.refusals.specs.declared.Refusal.the-variants.{Names, Unreadable, OutOfRange, AtOdds, Reservations, Superframes, SlotsUsed, LentTooShort, InputTooLong}
+use Rattle.refusals.specs.declared.Refusal.the-variants.{Names, Unreadable, TextAfter, OutOfRange, AtOdds, Reservations, Superframes, SlotsUsed, LentTooShort, InputTooLong}
 use Rattle.refusals.specs.Refusals.{numberOf}
 use Rattle.balanced.specs.Lines.{lines}
 use Rattle.balanced.specs.Outcome.{Outcome, Planned, Refused}
@@ -31,6 +31,7 @@ numbered : {A : Type 0} (r : Refusal) → numberOf r ≡ 0 → A
 unfolding numberOf
 numbered Names e = absurd (omega arith)
 numbered (Unreadable column) e = absurd (omega arith)
+numbered (TextAfter column) e = absurd (omega arith)
 numbered (OutOfRange column value) e = absurd (omega arith)
 numbered (AtOdds conflict) e = absurd (omega arith)
 numbered (Reservations ne nr) e = absurd (omega arith)

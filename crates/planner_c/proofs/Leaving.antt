@@ -4,8 +4,8 @@ use mathlib.Core.List.{List, _++_}
 use Prim.Native.Nat.{ℕ, _≤_, _<_}
 use native.Mathlib.Omega.{arith}
 use lib.ListN.{length, take, drop}
-use lib.Seq.{sets, take-at, take-length}
-use Rattle.buffer.proofs.Putting.{sets-front}
+use lib.Seq.{sets, take-length}
+use Rattle.buffer.proofs.Putting.{sets-front, put-front}
 use Rattle.refusals.specs.declared.Refusal.the-variants.{LentTooShort}
 use Rattle.balanced.specs.Outcome.{Outcome, Planned, Refused}
 use Rattle.planner.specs.declared.Plan.{Plan}
@@ -29,13 +29,9 @@ unfolding told written
 told-length (Planned p) = refl
 told-length (Refused r) = refl
 
--- what was put at the front of an array that is long enough
-put-front : (space e t : List ℕ) (n : ℕ) → n ≡ length t → n ≤ length e → space ≡ sets e 0 t → take n space ≡ t
-put-front space e t n q h w = rw (w, sets-front e t (omega (arith, q))) (take-at t (drop (length t) e) n (sym q))
-
 module _ (names row : List ℕ) (plan : Plan) (e : plan ≡ answer (namedOutcome names row)) where
   -- what the plan answers
-  plan-told : (a : Answer) → a ≡ answerOf plan → a ≡ told (namedOutcome names row)
+  pub plan-told : (a : Answer) → a ≡ answerOf plan → a ≡ told (namedOutcome names row)
   plan-told a q = q ∙ ap answerOf e ∙ told-of (namedOutcome names row)
 
   plan-length : plan .length ≡ length (written (namedOutcome names row))

@@ -3,6 +3,8 @@
 pub mod Rooms
 -- what a call leaves, by the plan that it was answered
 pub mod Leaving
+-- what the entries that speak English leave
+pub mod ReasonLines
 -- the laws of specs/Laws
 pub mod LawsHold
 -- a text that breaks the promise

@@ -6,7 +6,9 @@ use lib.ListN.{replicate}
 use Prim.Native.String.{String}
 use Rattle.decimal.specs.Ascii.{ascii}
 use Rattle.planner_c.specs.declared.Answer.{Answer}
+use Rattle.reasons.specs.Reading.{readReason}
 use Rattle.planner_c.specs.Entries.{Left, left, planRow, checkRow}
+use Rattle.planner_c.specs.Reasons.{explainRow, explainRefusal, numbered}
 
 abbrev pub answer : ℕ → ℕ → ℕ → Answer
 answer number place length = record { number = number; place = place; length = length }
@@ -44,3 +46,28 @@ pub record Examples : Type 0 where
   pub seven : refused 300 ≡ left (answer 7 0 0) (lent 300)
   pub sevenBeforeEight : refused 0 ≡ left (answer 7 0 0) []
   pub oneBeforeEight : call "" "0 0 0 0 4 0 0 1 1 19 7 0" 10 ≡ left (answer 1 0 0) (lent 10)
+
+-- P4's line, which has 82 bytes, and that of a planned row, which has 19
+unfoldable pub line : List ℕ
+line = ascii "The slots used at depth 0 are more than can be reserved: 10 used and 8 reservable."
+
+unfoldable pub explained : String → ℕ → Left
+explained row n = explainRow (ascii "BO SO H NR NE OWN SINK BURST RATE HEAD DATA ACK") (ascii row) (lent n)
+
+-- the entries that speak English
+pub record Spoken : Type 0 where
+  pub exact : explained "0 0 0 0 5 0 0 1 1 19 7 0" 82 ≡ left (answer 7 0 82) line
+  pub more : explained "0 0 0 0 5 0 0 1 1 19 7 0" 84 ≡ left (answer 7 0 82) (line ++ lent 2)
+  pub oneLess : explained "0 0 0 0 5 0 0 1 1 19 7 0" 81 ≡ left (answer 8 0 0) (lent 81)
+  pub none : explained "0 0 0 0 5 0 0 1 1 19 7 0" 0 ≡ left (answer 8 0 0) []
+  pub planned : explained "0 0 0 0 4 0 0 1 1 19 7 0" 20 ≡ left (answer 0 0 19) (ascii "The row is planned." ++ lent 1)
+  pub plannedShort : explained "0 0 0 0 4 0 0 1 1 19 7 0" 18 ≡ left (answer 8 0 0) (lent 18)
+  pub noNames : explainRow [] (ascii "x") (lent 41) ≡ left (answer 1 0 40) (ascii "The line of names differs or is missing." ++ lent 1)
+  pub one : explainRefusal 1 0 (lent 40) ≡ left (answer 0 0 40) (ascii "The line of names differs or is missing.")
+  pub eight : explainRefusal 8 0 (lent 55) ≡ left (answer 0 0 55) (ascii "The lent buffer is shorter than the text to be written.")
+  pub nine : explainRefusal 9 0 (lent 31) ≡ left (answer 0 0 31) (ascii "The input is over 65,536 bytes.")
+  pub nineShort : explainRefusal 9 0 (lent 30) ≡ left (answer 8 0 0) (lent 30)
+  pub eightElsewhere : explainRefusal 8 1 (lent 3) ≡ left (answer 0 0 0) (lent 3)
+  pub seven : explainRefusal 7 0 (lent 3) ≡ left (answer 0 0 0) (lent 3)
+  pub read : numbered (readReason line) ≡ record { number = 7; place = 0 }
+  pub readNone : numbered (readReason (ascii "R 7 0")) ≡ record { number = 0; place = 0 }

@@ -1,6 +1,8 @@
 -- What a reader must believe of the entries for C, in reading order. Assumes nothing.
 -- from bytes to bytes: the answer and the lent buffer, numbers 1 to 8
 pub mod Entries
+-- the same for the entries that speak English
+pub mod Reasons
 -- demand 3 of the text in the buffer
 pub mod Promise
 -- a text that breaks the promise: it is about something

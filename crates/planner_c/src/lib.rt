@@ -15,12 +15,21 @@ use refusals::Refusal;
 use refusals::Verdict;
 use report::LONGEST;
 
+pub mod reason; // refusals in English
+
 // What a call answers: 0, 0 and the text's length where the row is planned; else number and place of the refusal, and 0.
 #[repr(C)]
 pub struct Answer {
     pub number: u32,
     pub place: u32,
     pub length: u64,
+}
+
+// Number and place of a refusal; 0 and 0 where there is none.
+#[repr(C)]
+pub struct Numbered {
+    pub number: u32,
+    pub place: u32,
 }
 
 // Plans a row under a line of names, both without their LF, and writes nothing.

@@ -1,7 +1,7 @@
 -- Number and place of each refusal (document 01, the table of 'Rows of settings'). Assumes nothing: these are definitions.
 use Prim.Native.Nat.{ℕ}
 use Rattle.refusals.specs.declared.Refusal.{Refusal}
-use Rattle.refusals.specs.declared.Refusal.the-variants.{Names, Unreadable, OutOfRange, AtOdds, Reservations, Superframes, SlotsUsed, LentTooShort, InputTooLong}
+use Rattle.refusals.specs.declared.Refusal.the-variants.{Names, Unreadable, TextAfter, OutOfRange, AtOdds, Reservations, Superframes, SlotsUsed, LentTooShort, InputTooLong}
 use Rattle.refusals.specs.declared.Conflict.{Conflict}
 use Rattle.refusals.specs.declared.Conflict.the-variants.{Orders, Routers, Sensors, SinkDepth, SinkBranches, FrameLength}
 
@@ -19,6 +19,7 @@ conflictPlace (FrameLength head payload) = 11
 unfoldable pub numberOf : Refusal → ℕ
 numberOf Names = 1
 numberOf (Unreadable column) = 2
+numberOf (TextAfter column) = 2
 numberOf (OutOfRange column value) = 3
 numberOf (AtOdds conflict) = 4
 numberOf (Reservations ne nr) = 5
@@ -31,6 +32,7 @@ numberOf InputTooLong = 9
 unfoldable pub placeOf : Refusal → ℕ
 placeOf Names = 0
 placeOf (Unreadable column) = column
+placeOf (TextAfter column) = column
 placeOf (OutOfRange column value) = column
 placeOf (AtOdds conflict) = conflictPlace conflict
 placeOf (Reservations ne nr) = 0

@@ -9,8 +9,12 @@ use measure::Slots;
 pub enum Refusal {
     // 1: the name line differs or is missing.
     Names,
-    // 2: the value of a column is unreadable or missing; column 13 is text after the last.
+    // 2: the value of a column is unreadable or missing.
     Unreadable {
+        column: u32,
+    },
+    // 2: text after the last value, where this column would be.
+    TextAfter {
         column: u32,
     },
     // 3: the value of a column is outside its range.
@@ -66,6 +70,7 @@ impl Refusal {
         match self {
             Refusal::Names => 1,
             Refusal::Unreadable { column: _ } => 2,
+            Refusal::TextAfter { column: _ } => 2,
             Refusal::OutOfRange {
                 column: _,
                 value: _,
@@ -93,6 +98,7 @@ impl Refusal {
         match self {
             Refusal::Names => 0,
             Refusal::Unreadable { column } => column,
+            Refusal::TextAfter { column } => column,
             Refusal::OutOfRange { column, value: _ } => column,
             Refusal::AtOdds(conflict) => conflict.place(),
             Refusal::Reservations { ne: _, nr: _ } => 0,

@@ -2,7 +2,7 @@
 use mathlib.Core.Path.{_≡_}
 use mathlib.Core.List.{[], _∷_}
 use Rattle.decimal.specs.Ascii.{ascii}
-use Rattle.refusals.specs.declared.Refusal.the-variants.{Names, Unreadable, LentTooShort, InputTooLong}
+use Rattle.refusals.specs.declared.Refusal.the-variants.{Names, TextAfter, LentTooShort, InputTooLong}
 use Rattle.balanced.specs.declared.Kind.{Kind}
 use Rattle.balanced.specs.declared.Kind.the-variants.{EndNode, Upward, Downward, Sink}
 use Rattle.balanced.specs.declared.Line.{Line}
@@ -31,6 +31,6 @@ pub record Examples : Type 0 where
   pub plan : text (counted Upward ∷ counted Sink ∷ [])
       ≡ ascii "KIND DEPTH RATE BURST SLOTS FRAMES LATENCY BUFFER DELAY\nU 2 3 40 5 60 700 8 9000\nS 2 3 40 5 60 700 8 9000\n"
   pub names : refusalText Names ≡ ascii "R 1 0\n"
-  pub behind : refusalText (Unreadable 13) ≡ ascii "R 2 13\n"
+  pub behind : refusalText (TextAfter 13) ≡ ascii "R 2 13\n"
   pub short : refusalText LentTooShort ≡ ascii "R 8 0\n"
   pub long : refusalText InputTooLong ≡ ascii "R 9 0\n"

@@ -2,12 +2,12 @@
 use mathlib.Core.Path.{refl}
 use Rattle.decimal.specs.Ascii.{ascii}
 use Rattle.decimal.specs.Number.{digits, zeroLed, shaped, readable, spelledAfter}
-use Rattle.lines.specs.Text.{before, pieces, fields, joined}
+use Rattle.lines.specs.Text.{same, before, pieces, fields, joined}
 use Rattle.refusals.specs.Refusals.{conflictPlace, numberOf, placeOf}
 use Rattle.refusals.specs.Conditions.{firstBroken}
 use Rattle.settings.specs.Columns.{table}
 use Rattle.settings.specs.Checks.{valuesOf, ranged, atOdds, checks}
-use Rattle.row.specs.Names.{nameLine, same, isNameLine}
+use Rattle.row.specs.Names.{nameLine, isNameLine}
 use Rattle.row.specs.Rows.{named, written, valuesIn, settingsOf, conditions, rowOf, namedRow}
 use Rattle.row.specs.Examples.{answered, under, asked, behind, Examples}
 

@@ -1,6 +1,4 @@
 -- Laws about the definitions of specs/. Assumes nothing.
--- whether two texts are equal
-pub mod Sameness
 -- number 2, column by column
 pub mod Writing
 -- after the first values of a row were taken

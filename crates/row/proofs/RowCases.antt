@@ -7,7 +7,7 @@ use lib.ListN.{length, length-map}
 use Rattle.decimal.specs.Number.{readable, spelled}
 use Rattle.lines.specs.Text.{fields}
 use Rattle.refusals.specs.declared.Refusal.{Refusal}
-use Rattle.refusals.specs.declared.Refusal.the-variants.{Names, Unreadable}
+use Rattle.refusals.specs.declared.Refusal.the-variants.{Names, Unreadable, TextAfter}
 use Rattle.refusals.specs.declared.Verdict.the-variants.{Kept, Broken}
 use Rattle.refusals.specs.Conditions.{firstBroken}
 use Rattle.refusals.proofs.Answering.{verdict, broken-kept, answer-broken, answer-kept, first-part-answers, second-part-answers}
@@ -22,7 +22,7 @@ use Rattle.row.specs.Rows.{named, written, valuesIn, settingsOf, conditi
 pub written-length : (k : ℕ) (cs : List Column) (fs : List (List ℕ)) → verdict (written k cs fs) ≡ Kept → length fs ≡ length cs
 unfolding written firstBroken
 written-length k [] [] e = refl
-written-length k [] (f ∷ fs) e = broken-kept (Unreadable k) e
+written-length k [] (f ∷ fs) e = broken-kept (TextAfter k) e
 written-length k (c ∷ cs) [] e = broken-kept (Unreadable k) e
 written-length k (c ∷ cs) (f ∷ fs) e = by (readable f) e (written-length (suc k) cs fs) where
   by : (b : Bool) → cond (not b) (Broken (Unreadable k)) (verdict (written (suc k) cs fs)) ≡ Kept

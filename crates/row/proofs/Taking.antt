@@ -10,7 +10,7 @@ use Rattle.bytes.specs.Bytes.{indexOf}
 use Rattle.decimal.specs.Number.{spelled, numberIn}
 use Rattle.decimal.specs.declared.Number.the-variants.{Value, Unreadable as None}
 use Rattle.decimal.proofs.Spelling.{number-read}
-use Rattle.refusals.specs.declared.Refusal.the-variants.{Unreadable}
+use Rattle.refusals.specs.declared.Refusal.the-variants.{Unreadable, TextAfter}
 use Rattle.refusals.specs.declared.Verdict.the-variants.{Kept, Broken}
 use Rattle.lines.specs.Text.{fields}
 use Rattle.settings.specs.Columns.{table}
@@ -59,7 +59,7 @@ module _ (row numbers : List ℕ) (at k : ℕ) (t : Taken row numbers at k) wher
     }
 
   -- text follows the last value
-  pub taken-after : k ≡ 12 → at ≤ length row → verdict (written 1 table (fields row)) ≡ Broken (Unreadable 13)
+  pub taken-after : k ≡ 12 → at ≤ length row → verdict (written 1 table (fields row)) ≡ Broken (TextAfter 13)
   taken-after z p =
       let e = t .left in
       let e′ = rw (z, fields-step row at (at + indexOf 32 (drop at row)) p refl) at e in

@@ -6,7 +6,7 @@ use lib.ListN.{drop}
 use Rattle.decimal.specs.Number.{numberIn}
 use Rattle.decimal.specs.declared.Number.the-variants.{Value, Unreadable as None}
 use Rattle.decimal.proofs.Spelling.{number-read, number-none}
-use Rattle.refusals.specs.declared.Refusal.the-variants.{Unreadable}
+use Rattle.refusals.specs.declared.Refusal.the-variants.{Unreadable, TextAfter}
 use Rattle.refusals.specs.declared.Verdict.the-variants.{Kept, Broken}
 use Rattle.refusals.specs.Conditions.{firstBroken}
 use Rattle.refusals.proofs.Answering.{verdict}
@@ -32,7 +32,7 @@ unfolding written firstBroken
 written-value k h f fs v e = rw (table-step k h, number-read f v e .0)
 
 -- text after the last value, and none
-pub written-after : (f : List ℕ) (fs : List (List ℕ)) → verdict (written 13 (drop 12 table) (f ∷ fs)) ≡ Broken (Unreadable 13)
+pub written-after : (f : List ℕ) (fs : List (List ℕ)) → verdict (written 13 (drop 12 table) (f ∷ fs)) ≡ Broken (TextAfter 13)
 unfolding written firstBroken table
 written-after f fs = refl
 

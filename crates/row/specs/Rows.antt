@@ -7,7 +7,7 @@ use lib.ListN.{getD}
 use Rattle.decimal.specs.Number.{readable, spelled}
 use Rattle.lines.specs.Text.{fields}
 use Rattle.refusals.specs.declared.Refusal.{Refusal}
-use Rattle.refusals.specs.declared.Refusal.the-variants.{Names, Unreadable}
+use Rattle.refusals.specs.declared.Refusal.the-variants.{Names, Unreadable, TextAfter}
 use Rattle.refusals.specs.Conditions.{Condition, condition, firstBroken}
 use Rattle.settings.specs.declared.Settings.{Settings}
 use Rattle.settings.specs.Columns.{Column, table}
@@ -24,7 +24,7 @@ named line = condition (not (isNameLine line)) Names ∷ []
 -- the last"
 unfoldable pub written : ℕ → List Column → List (List ℕ) → List (Condition Refusal)
 written k [] [] = []
-written k [] (f ∷ fs) = condition true (Unreadable k) ∷ []
+written k [] (f ∷ fs) = condition true (TextAfter k) ∷ []
 written k (c ∷ cs) [] = condition true (Unreadable k) ∷ []
 written k (c ∷ cs) (f ∷ fs) = condition (not (readable f)) (Unreadable k) ∷ written (suc k) cs fs
 

@@ -1,9 +1,9 @@
 // The values of a row: number 2 of document 01's table.
 ghost use mathlib.Core.Path.{_≡_};
-ghost use Prim.Native.Nat.{_+_, _≤_};
+ghost use Prim.Native.Nat.{_+_, _<_};
 ghost use Rattle.lines.specs.Text.{fields};
 ghost use Rattle.refusals.specs.declared.Verdict.the-variants.{Kept, Broken};
-ghost use Rattle.refusals.specs.declared.Refusal.the-variants.{Unreadable};
+ghost use Rattle.refusals.specs.declared.Refusal.the-variants.{Unreadable, TextAfter};
 ghost use Rattle.refusals.specs.Conditions.{firstBroken};
 ghost use Rattle.settings.specs.Columns.{table};
 ghost use Rattle.row.specs.Rows.{written, valuesIn};
@@ -42,7 +42,7 @@ pub(crate) fn read_values(row: &[u8]) -> Values
         k += 1;
     }
     if at <= row.len() {
-        return unreadable(numbers, 12);
+        return text_after(numbers);
     }
     Values {
         numbers,
@@ -52,7 +52,7 @@ pub(crate) fn read_values(row: &[u8]) -> Values
 
 // The answer where the value behind the first k cannot be read.
 fn unreadable(numbers: [u64; 12], k: usize) -> Values
-    requires { ⌜ k ≤ 12 ⌝ }
+    requires { ⌜ k < 12 ⌝ }
     ensures { λ r. ⌜ r .verdict ≡ Broken (Unreadable (k + 1)) ⌝ }
 {
     Values {
@@ -60,5 +60,15 @@ fn unreadable(numbers: [u64; 12], k: usize) -> Values
         verdict: Verdict::Broken(Refusal::Unreadable {
             column: (k + 1) as u32,
         }),
+    }
+}
+
+// The answer where text follows the last value.
+fn text_after(numbers: [u64; 12]) -> Values
+    ensures { λ r. ⌜ r .verdict ≡ Broken (TextAfter 13) ⌝ }
+{
+    Values {
+        numbers,
+        verdict: Verdict::Broken(Refusal::TextAfter { column: 13 }),
     }
 }

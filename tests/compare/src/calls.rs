@@ -1,8 +1,10 @@
-//! Calls of both entries on random rows, with buffers of many lengths.
+//! Calls of the entries on random rows, with buffers of many lengths.
 
-use crate::difference::{of_check, of_plan, Expected, Found, TOO_SHORT};
+use crate::buffers::Buffers;
+use crate::difference::{of_check, of_lent, Expected};
 use crate::entries::{Planner, LONGEST_TEXT};
-use crate::lent::Lent;
+use crate::lent::Inputs;
+use crate::reasons::Reasons;
 use crate::totals::Totals;
 use reference::plan_named_row;
 use reference::rows::{self, Rng};
@@ -13,18 +15,13 @@ const ALL_LENGTHS: u64 = 20;
 const PAST: usize = 8;
 /// A length above that of the longest text.
 const LONG: usize = 5000;
-/// Guard bytes on either side of the buffer, as many as this at most.
-const MOST_GUARDS: usize = 64;
-/// Length of the store of random bytes.
-const STORE: usize = 1 << 16;
 
-/// A planner under comparison. Memories are reused from call to call.
+/// A planner under comparison.
 pub struct Calls<'a, P: Planner> {
     planner: &'a P,
     rng: Rng,
-    /// Random bytes; each call's memory is a part of them that starts anywhere.
-    store: Vec<u8>,
-    memory: Vec<u8>,
+    buffers: Buffers,
+    reasons: Reasons<'a, P>,
     pub totals: Totals,
 }
 
@@ -35,18 +32,11 @@ pub struct Differing {
     pub report: String,
 }
 
-/// A row with what is expected of it.
-struct Case {
-    names: Lent,
-    row: Lent,
-    expected: Expected,
-}
-
 impl<'a, P: Planner> Calls<'a, P> {
     pub fn new(planner: &'a P, seed: u64) -> Calls<'a, P> {
         let mut rng = Rng::new(seed);
-        let store = rng.bytes(STORE);
-        Calls { planner, rng, store, memory: Vec::new(), totals: Totals::default() }
+        let buffers = Buffers::new(&mut rng);
+        Calls { planner, rng, buffers, reasons: Reasons::new(planner, seed), totals: Totals::default() }
     }
 
     /// Draws a row and compares on it.
@@ -56,65 +46,50 @@ impl<'a, P: Planner> Calls<'a, P> {
         self.compare(&names, &row).map_err(|report| Differing { names, row, report })
     }
 
+    /// Compares on the refusals that are given by number and place.
+    pub fn refusals(&mut self) -> Result<(), String> {
+        self.reasons.refusals(&mut self.totals)
+    }
+
     fn compare(&mut self, names: &[u8], row: &[u8]) -> Result<(), String> {
         let outcome = plan_named_row(names, row);
         self.totals.rows += 1;
         self.totals.seen.note(&outcome);
-        let mut case = Case {
-            names: Lent::new(&mut self.rng, names),
-            row: Lent::new(&mut self.rng, row),
-            expected: Expected::new(&outcome),
-        };
-        self.check(&mut case)?;
-        for room in self.draw_rooms(case.expected.length()) {
-            self.plan(&mut case, room)?;
+        let mut inputs = Inputs::new(&mut self.rng, names, row);
+        let expected = Expected::planning(&outcome);
+        self.check(&mut inputs, &expected)?;
+        for room in self.draw_rooms(expected.text().len()) {
+            self.plan(&mut inputs, &expected, room)?;
         }
-        Ok(())
+        self.reasons.compare(&mut inputs, &outcome, &mut self.totals)
     }
 
     /// A call of `planner_check_row`.
-    fn check(&mut self, case: &mut Case) -> Result<(), String> {
+    fn check(&mut self, inputs: &mut Inputs, expected: &Expected) -> Result<(), String> {
         self.totals.calls += 1;
-        let answer = self.planner.check_row(case.names.lend(), case.row.lend());
-        of_check(&case.expected, answer)?;
-        case.inputs_kept()
+        let answer = self.planner.check_row(inputs.names.lend(), inputs.row.lend());
+        of_check(expected, answer)?;
+        inputs.are_kept()
     }
 
     /// A call of `planner_plan_row` with a buffer of this length.
-    fn plan(&mut self, case: &mut Case, room: usize) -> Result<(), String> {
-        let start = self.rng.index(MOST_GUARDS + 1);
-        let length = start + room + self.rng.index(MOST_GUARDS + 1);
-        let from = self.rng.index(STORE - length + 1);
-        let before = &self.store[from..from + length];
-        self.memory.clear();
-        self.memory.extend_from_slice(before);
-        let null = room == 0 && self.rng.one_in(2);
-        let text = (!null).then(|| &mut self.memory[start..start + room]);
-        let answer = self.planner.plan_row(case.names.lend(), case.row.lend(), text);
-        self.totals.note_buffer(length, answer.number == TOO_SHORT);
-        of_plan(&case.expected, &Found { answer, before, after: &self.memory, start, room })?;
-        case.inputs_kept()
+    fn plan(&mut self, inputs: &mut Inputs, expected: &Expected, room: usize) -> Result<(), String> {
+        let call = |text: Option<&mut [u8]>| self.planner.plan_row(inputs.names.lend(), inputs.row.lend(), text);
+        let found = self.buffers.lend(&mut self.rng, room, call);
+        self.totals.note_buffer(&found);
+        of_lent("planner_plan_row", expected, &found)?;
+        inputs.are_kept()
     }
 
-    /// The lengths to lend for a row whose text has this length, or that is refused.
-    fn draw_rooms(&mut self, length: Option<usize>) -> Vec<usize> {
-        match length {
-            None => vec![0, self.rng.index(300), LONGEST_TEXT],
-            Some(length) if self.rng.one_in(ALL_LENGTHS) => (0..=length + PAST).collect(),
-            Some(length) => {
-                let any = self.rng.index(length + 100);
-                vec![length - 1, length, length + 1, 0, 1, any, LONGEST_TEXT, LONG]
-            }
-        }
-    }
-}
-
-impl Case {
-    fn inputs_kept(&self) -> Result<(), String> {
-        if self.names.is_kept() && self.row.is_kept() {
-            Ok(())
+    /// The lengths to lend for a row whose text has this length; 0 where it is refused.
+    fn draw_rooms(&mut self, length: usize) -> Vec<usize> {
+        if length == 0 {
+            vec![0, self.rng.index(300), LONGEST_TEXT]
+        } else if self.rng.one_in(ALL_LENGTHS) {
+            (0..=length + PAST).collect()
         } else {
-            Err("names or row, or bytes beside them, were changed".to_string())
+            let any = self.rng.index(length + 100);
+            vec![length - 1, length, length + 1, 0, 1, any, LONGEST_TEXT, LONG]
         }
     }
 }
@@ -122,55 +97,24 @@ impl Case {
 /// A planner that is right but for one fault must be found out by the calls.
 #[cfg(test)]
 mod tests {
-    use super::*;
-    use crate::entries::{Answer, Library, Memory};
-    use reference::write_plan;
+    use crate::difference::TOO_SHORT;
+    use crate::entries::{Answer, Library};
+    use crate::wrong::{is_found_out, Wrong};
 
-    /// The reference behind the entries for C, with one thing wrong in some of its answers.
-    struct Wrong<F: Fn(&mut Answer, &mut [u8], &mut [u8])> {
-        fault: F,
-    }
-
-    impl<F: Fn(&mut Answer, &mut [u8], &mut [u8])> Planner for Wrong<F> {
-        fn check_row(&self, names: Memory, row: Memory) -> Answer {
-            let outcome = plan_named_row(names.unwrap_or_default(), row.unwrap_or_default());
-            Expected::new(&outcome).checked()
-        }
-
-        fn plan_row(&self, names: Memory, row: Memory, text: Memory) -> Answer {
-            let (row, text) = (row.unwrap_or_default(), text.unwrap_or_default());
-            let outcome = plan_named_row(names.unwrap_or_default(), row);
-            let mut answer = Expected::new(&outcome).planned(text.len());
-            if answer.number == 0 {
-                let mut written = Vec::new();
-                outcome.iter().for_each(|plan| write_plan(plan, &mut written));
-                text[..written.len()].copy_from_slice(&written);
-            }
-            (self.fault)(&mut answer, row, text);
-            answer
-        }
-    }
-
-    /// The planner is found out within some hundred rows.
-    fn is_found_out(planner: &impl Planner) -> bool {
-        let mut calls = Calls::new(planner, 1);
-        (0..2_000).any(|_| calls.next_row().is_err())
-    }
-
-    fn fault_is_found_out(fault: impl Fn(&mut Answer, &mut [u8], &mut [u8])) -> bool {
-        is_found_out(&Wrong { fault })
+    fn fault_is_found_out(fault: impl Fn(&mut Answer, &mut [u8], &mut [u8]) + 'static) -> bool {
+        is_found_out(&Wrong { planning: Box::new(fault), ..Wrong::default() })
     }
 
     #[test]
     fn the_right_ones_pass() {
         assert!(!is_found_out(&Library));
-        assert!(!fault_is_found_out(|_, _, _| ()));
+        assert!(!is_found_out(&Wrong::default()));
     }
 
     #[test]
     fn place_off_by_one_in_one_number() {
         for number in 1..=8 {
-            assert!(fault_is_found_out(|answer, _, _| answer.place += u32::from(answer.number == number)));
+            assert!(fault_is_found_out(move |answer, _, _| answer.place += u32::from(answer.number == number)));
         }
     }
 
@@ -195,7 +139,7 @@ mod tests {
     #[test]
     fn refusals_that_clear_the_buffer() {
         for number in 1..=8 {
-            assert!(fault_is_found_out(|answer, _, text| {
+            assert!(fault_is_found_out(move |answer, _, text| {
                 if answer.number == number {
                     text.fill(0);
                 }

@@ -1,8 +1,13 @@
-//! Holds the planner's two entries for C and its program against the reference implementation of document 01.
+//! Holds the planner's entries for C and its programs against the reference implementation of document 01 and of
+//! request E1.
 
+pub mod buffers;
 pub mod calls;
 pub mod difference;
 pub mod entries;
 pub mod lent;
 pub mod program;
+pub mod reasons;
 pub mod totals;
+#[cfg(test)]
+mod wrong;

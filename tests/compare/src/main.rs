@@ -1,8 +1,8 @@
-//! compare SEED ROWS TEXTS [PLAN-PROGRAM]
+//! compare SEED ROWS TEXTS [PLAN-PROGRAM [EXPLAIN-PROGRAM]]
 //!
-//! Compares the planner's entries for C on ROWS random rows, and program `plan` on TEXTS random inputs, with the
-//! reference implementation. Exit status 0: no difference; 1: a difference, or something that rows can reach was not
-//! reached; 2: wrong arguments.
+//! Compares the planner's entries for C on ROWS random rows, and programs `plan` and `explain` on TEXTS random inputs,
+//! with the reference implementation. Exit status 0: no difference; 1: a difference, or something that rows can reach
+//! was not reached; 2: wrong arguments.
 
 use compare::calls::Calls;
 use compare::entries::Library;
@@ -20,12 +20,13 @@ struct Arguments {
     seed: u64,
     rows: u64,
     texts: u64,
-    program: PathBuf,
+    plan: PathBuf,
+    explain: PathBuf,
 }
 
 fn main() -> ExitCode {
     let Some(arguments) = read_arguments() else {
-        eprintln!("usage: compare SEED ROWS TEXTS [PLAN-PROGRAM]");
+        eprintln!("usage: compare SEED ROWS TEXTS [PLAN-PROGRAM [EXPLAIN-PROGRAM]]");
         return ExitCode::from(2);
     };
     println!("seed {}", arguments.seed);
@@ -44,18 +45,20 @@ fn main() -> ExitCode {
 fn read_arguments() -> Option<Arguments> {
     let given: Vec<String> = env::args().skip(1).collect();
     let number = |index: usize| given.get(index).and_then(|text| text.parse().ok());
-    let program = given.get(3).map_or_else(default_program, PathBuf::from);
-    let arguments = Arguments { seed: number(0)?, rows: number(1)?, texts: number(2)?, program };
-    (given.len() <= 4).then_some(arguments)
+    let program = |index: usize, name| given.get(index).map_or_else(|| default_program(name), PathBuf::from);
+    let (plan, explain) = (program(3, "plan"), program(4, "explain"));
+    let arguments = Arguments { seed: number(0)?, rows: number(1)?, texts: number(2)?, plan, explain };
+    (given.len() <= 5).then_some(arguments)
 }
 
-/// target/bin/plan of the repository or, if it is not there, of the current directory.
-fn default_program() -> PathBuf {
-    let beside = Path::new(env!("CARGO_MANIFEST_DIR")).join("../../target/bin/plan");
+/// The program of this name in target/bin of the repository or, if it is not there, of the current directory.
+fn default_program(name: &str) -> PathBuf {
+    let built = Path::new("target/bin").join(name);
+    let beside = Path::new(env!("CARGO_MANIFEST_DIR")).join("../..").join(&built);
     if beside.exists() {
         beside
     } else {
-        PathBuf::from("target/bin/plan")
+        built
     }
 }
 
@@ -79,6 +82,7 @@ fn compare_rows(arguments: &Arguments) -> Result<Totals, String> {
             )
         })?;
     }
+    calls.refusals().map_err(|report| format!("DIFFERENCE: seed {}, refusals\n{report}", arguments.seed))?;
     Ok(calls.totals)
 }
 
@@ -86,7 +90,7 @@ fn compare_texts(arguments: &Arguments, totals: &mut Totals) -> Result<(), Strin
     let mut rng = Rng::new(!arguments.seed);
     for index in 0..arguments.texts {
         let text = rows::text(&mut rng);
-        let length = program::compare(&arguments.program, &text).map_err(|report| {
+        let length = compare_text(arguments, &text).map_err(|report| {
             let text = text.escape_ascii();
             format!("DIFFERENCE: seed {}, text {index}\ninput \"{text}\"\n{report}", arguments.seed)
         })?;
@@ -95,8 +99,15 @@ fn compare_texts(arguments: &Arguments, totals: &mut Totals) -> Result<(), Strin
     Ok(())
 }
 
+/// Both programs on the same input. Returns the number of bytes compared.
+fn compare_text(arguments: &Arguments, text: &[u8]) -> Result<usize, String> {
+    let plans = program::compare(&arguments.plan, text, &reference::program(text))?;
+    let lines = program::compare(&arguments.explain, text, &reference::explanations(text))?;
+    Ok(plans + lines)
+}
+
 fn check_reach(arguments: &Arguments, totals: &Totals) -> Result<(), String> {
-    let missing = if arguments.rows < ENOUGH_ROWS { Vec::new() } else { totals.seen.missing() };
+    let missing = if arguments.rows < ENOUGH_ROWS { Vec::new() } else { totals.missing() };
     let unexpected = totals.seen.unexpected();
     if missing.is_empty() && unexpected.is_empty() {
         Ok(())

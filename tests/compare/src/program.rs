@@ -1,16 +1,17 @@
-//! Whole inputs through program `plan`.
+//! Whole inputs through programs `plan` and `explain`.
 
 use std::io::{self, ErrorKind, Write};
 use std::path::Path;
 use std::process::{Command, Output, Stdio};
 use std::thread;
 
-/// Runs the program on an input and compares all that it prints, and its exit status, with the reference. Returns the
+/// Runs a program on an input and compares all that it prints, and its exit status, with what is expected. Returns the
 /// number of bytes compared.
-pub fn compare(program: &Path, input: &[u8]) -> Result<usize, String> {
-    let expected = reference::program(input);
-    let output = run(program, input).map_err(|error| format!("{}: {error}", program.display()))?;
-    difference(&expected, &output.stdout, output.status.code())?;
+pub fn compare(program: &Path, input: &[u8], expected: &[u8]) -> Result<usize, String> {
+    run(program, input)
+        .map_err(|error| error.to_string())
+        .and_then(|output| difference(expected, &output.stdout, output.status.code()))
+        .map_err(|report| format!("{}: {report}", program.display()))?;
     Ok(expected.len())
 }
 

@@ -1,5 +1,10 @@
 //! What a run has compared.
 
+mod lines;
+
+pub use lines::Lines;
+
+use crate::difference::{Found, TOO_SHORT};
 use reference::rows::Seen;
 use std::collections::BTreeMap;
 use std::fmt;
@@ -13,24 +18,44 @@ pub struct Totals {
     /// Buffers answered with number 8.
     pub too_short: u64,
     pub texts: u64,
-    /// Bytes of memories around calls, and of outputs of the program.
+    /// Bytes of memories around calls, and of outputs of the programs.
     pub bytes: u64,
     pub seen: Seen,
+    pub lines: Lines,
 }
 
 impl Totals {
-    /// Counts a call with a buffer, in a memory of this length.
-    pub fn note_buffer(&mut self, length: usize, too_short: bool) {
+    /// Counts a call with a buffer.
+    pub fn note_buffer(&mut self, found: &Found) {
         self.calls += 1;
         self.buffers += 1;
-        self.too_short += u64::from(too_short);
-        self.bytes += length as u64;
+        self.too_short += u64::from(found.answer.number == TOO_SHORT);
+        self.bytes += found.before.len() as u64;
     }
 
-    /// Counts an input of the program, with this many bytes of output.
+    /// Counts a call with a buffer for a line.
+    pub fn note_explained(&mut self, found: &Found) {
+        self.note_buffer(found);
+        self.lines.buffers += 1;
+    }
+
+    /// Counts a line that was read.
+    pub fn note_read(&mut self) {
+        self.calls += 1;
+        self.lines.read += 1;
+    }
+
+    /// Counts an input of both programs, with this many bytes of output.
     pub fn note_text(&mut self, length: usize) {
         self.texts += 1;
         self.bytes += length as u64;
+    }
+
+    /// What can be reached and was not: refusals, shapes of plans, lines and damages of lines.
+    pub fn missing(&self) -> Vec<String> {
+        let mut missing = self.seen.missing();
+        missing.extend(self.lines.missing());
+        missing
     }
 
     fn planned(&self) -> u64 {
@@ -38,18 +63,19 @@ impl Totals {
     }
 }
 
-/// The refusals, one line for each number with its places and their counts, the shapes, and a line of totals.
+/// The refusals, one line for each number with its places and their counts, the shapes, the lines, and a line of totals.
 impl fmt::Display for Totals {
     fn fmt(&self, out: &mut fmt::Formatter) -> fmt::Result {
         let mut by_number: BTreeMap<u32, String> = BTreeMap::new();
-        for (refusal, count) in &self.seen.refusals {
-            by_number.entry(refusal.number).or_default().push_str(&format!(" {}:{count}", refusal.place));
+        for ((number, place), count) in &self.seen.refusals {
+            by_number.entry(*number).or_default().push_str(&format!(" {place}:{count}"));
         }
         for (number, places) in by_number {
             writeln!(out, "refused with {number}, place:rows{places}")?;
         }
         let fewest = self.seen.shapes.values().min().copied().unwrap_or(0);
         writeln!(out, "plans of {} shapes (H, SINK), at least {fewest} rows each", self.seen.shapes.len())?;
+        writeln!(out, "{}", self.lines)?;
         write!(
             out,
             "rows {}, planned {}, calls {}, buffers {} (too short: {}), texts {}, bytes compared {}: no difference",

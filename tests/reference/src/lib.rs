@@ -1,21 +1,40 @@
 //! A second implementation of the planner that document 01 ("Cluster-tree reservation planner for battery radio
-//! sensors") sets out. It was written from the words of that document alone, so that another implementation can be
-//! compared with it. Words such as BI, S, X, L, k, m and T are those of document 01.
+//! sensors") sets out, with the reasons of request E1 of document 02. It was written from the words of those documents
+//! alone, so that another implementation can be compared with it; only the phrases of the reasons, which document 02
+//! leaves open, were given. Words such as BI, S, X, L, k, m and T are those of document 01.
 
 mod air;
+mod reason;
 pub mod rows;
 mod settings;
 mod text;
 mod tree;
 
-pub use text::{program, write_plan, INPUT_LIMIT, NAMES};
+pub use reason::{line_of, read_reason, whole_line, Phrase, PLANNED};
+pub use text::{explanations, program, write_plan, INPUT_LIMIT, NAMES};
 pub use tree::{Kind, Line, Plan};
 
-/// A refusal: its number in the table of document 01 ("Rows of settings") and its place.
-#[derive(Clone, Copy, Debug, PartialEq, Eq, PartialOrd, Ord)]
+/// A refusal: its number in the table of document 01 ("Rows of settings") and its place, and what its line says.
+#[derive(Clone, Copy, Debug, PartialEq, Eq)]
 pub struct Refusal {
     pub number: u32,
     pub place: u32,
+    /// The words of its line.
+    pub phrase: Phrase,
+    /// The values concerned, in the order in which the line names them; 0 where it names fewer than two.
+    pub values: [u64; 2],
+}
+
+impl Refusal {
+    /// A refusal with the number that the phrase is for.
+    fn new(phrase: Phrase, place: u32, values: [u64; 2]) -> Refusal {
+        Refusal { number: phrase.number(), place, phrase, values }
+    }
+
+    /// A refusal whose line names no values.
+    fn without_values(phrase: Phrase, place: u32) -> Refusal {
+        Refusal::new(phrase, place, [0, 0])
+    }
 }
 
 /// What planning a row gives: its plan, or the first condition that failed.

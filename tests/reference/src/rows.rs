@@ -1,14 +1,17 @@
 //! Rows, name lines and whole inputs for tests, drawn at random from a seed. They are of all kinds that document 01 can
 //! answer: plans of every shape, every refusal at every place, values on both sides of each limit, and damaged text.
+//! Damaged lines of refusals are drawn as well.
 
 mod broken;
 mod inputs;
+mod lines;
 mod planned;
 mod reach;
 mod refused;
 mod rng;
 
 pub use inputs::{names, text};
+pub use lines::{damaged_line, made_up_line};
 pub use reach::{plannable_shapes, reachable_refusals, Seen};
 pub use rng::Rng;
 

@@ -1,6 +1,6 @@
 //! Document 01, "Rows of settings": the values of a row and conditions 2, 3 and 4 of the table.
 
-use crate::Refusal;
+use crate::{Phrase, Refusal};
 
 /// Values in a row.
 pub const COLUMNS: usize = 12;
@@ -77,12 +77,12 @@ fn read_values(row: &[u8]) -> Result<Values, Refusal> {
     let mut pieces = row.split(|&byte| byte == b' ');
     let mut values = [0; COLUMNS];
     for (column, value) in (1..).zip(&mut values) {
-        let refusal = Refusal { number: 2, place: column };
-        *value = pieces.next().and_then(read_value).ok_or(refusal)?;
+        let refusal = || Refusal::without_values(Phrase::Value, column);
+        *value = pieces.next().and_then(read_value).ok_or_else(refusal)?;
     }
     match pieces.next() {
         None => Ok(values),
-        Some(_) => Err(Refusal { number: 2, place: AFTER_LAST }),
+        Some(_) => Err(Refusal::without_values(Phrase::TextAfter, AFTER_LAST)),
     }
 }
 
@@ -99,24 +99,25 @@ fn read_value(piece: &[u8]) -> Option<u64> {
 fn check_ranges(values: &Values) -> Result<(), Refusal> {
     for ((place, value), (low, high)) in (1..).zip(values).zip(RANGES) {
         if *value < low || *value > high {
-            return Err(Refusal { number: 3, place });
+            return Err(Refusal::new(Phrase::Range, place, [*value, 0]));
         }
     }
     Ok(())
 }
 
-/// Condition 4, in the order in which the table names its parts.
+/// Condition 4, in the order in which the table names its parts. The values are those that the part compares.
 fn check_odds(values: &Values) -> Result<(), Refusal> {
     let [bo, so, h, nr, ne, own, sink, _, _, head, data, _] = *values;
     let parts = [
-        (so > bo, 2),
-        ((nr == 0) != (h == 0), 4),
-        (ne == 0 && own == 0, 5),
-        (sink > h || (sink > 0 && nr < 2), 7),
-        (head + data > LONGEST_FRAME, 11),
+        (so > bo, 2, Phrase::OrdersAtOdds, [so, bo]),
+        ((nr == 0) != (h == 0), 4, Phrase::RoutersAtOdds, [nr, h]),
+        (ne == 0 && own == 0, 5, Phrase::NothingSenses, [ne, own]),
+        (sink > h, 7, Phrase::SinkTooDeep, [sink, h]),
+        (sink > 0 && nr < 2, 7, Phrase::SinkOnOneBranch, [sink, nr]),
+        (head + data > LONGEST_FRAME, 11, Phrase::FrameTooLong, [head, data]),
     ];
-    match parts.iter().find(|(at_odds, _)| *at_odds) {
-        Some(&(_, place)) => Err(Refusal { number: 4, place }),
+    match parts.into_iter().find(|(at_odds, ..)| *at_odds) {
+        Some((_, place, phrase, values)) => Err(Refusal::new(phrase, place, values)),
         None => Ok(()),
     }
 }

@@ -1,11 +1,11 @@
-//! Document 01, "The printed plan": the text of a plan, the program's whole output, and conditions 1 and 9.
+//! Document 01, "The printed plan": the text of a plan, the programs' whole output, and conditions 1 and 9.
 
-use crate::{plan_row, Kind, Line, Plan, Refusal};
+use crate::{line_of, plan_row, Kind, Line, Outcome, Phrase, Plan, Refusal};
 
 /// The line of names, without its LF.
 pub const NAMES: &str = "BO SO H NR NE OWN SINK BURST RATE HEAD DATA ACK";
 
-/// The most bytes of input that the program takes.
+/// The most bytes of input that a program takes.
 pub const INPUT_LIMIT: usize = 65_536;
 
 const HEADER: &[u8] = b"KIND DEPTH RATE BURST SLOTS FRAMES LATENCY BUFFER DELAY\n";
@@ -15,33 +15,47 @@ pub fn check_names(names: &[u8]) -> Result<(), Refusal> {
     if names == NAMES.as_bytes() {
         Ok(())
     } else {
-        Err(Refusal { number: 1, place: 0 })
+        Err(Refusal::without_values(Phrase::Names, 0))
     }
 }
 
 /// What program `plan` prints for this standard input.
 pub fn program(input: &[u8]) -> Vec<u8> {
+    printed(input, |outcome, out| match outcome {
+        Ok(plan) => write_plan(plan, out),
+        Err(refusal) => write_refusal(*refusal, out),
+    })
+}
+
+/// What program `explain` prints for this standard input: for each row a line that says why it is refused, or that it
+/// is planned.
+pub fn explanations(input: &[u8]) -> Vec<u8> {
+    printed(input, |outcome, out| {
+        out.extend_from_slice(line_of(outcome).as_bytes());
+        out.push(b'\n');
+    })
+}
+
+/// What a program prints that writes each outcome in this way.
+fn printed(input: &[u8], write: impl Fn(&Outcome, &mut Vec<u8>)) -> Vec<u8> {
     let mut out = Vec::new();
     if input.len() > INPUT_LIMIT {
-        write_refusal(Refusal { number: 9, place: 0 }, &mut out);
+        write(&Err(Refusal::without_values(Phrase::Input, 0)), &mut out);
         return out;
     }
     let (names, rest) = cut_line(input);
     match check_names(names) {
-        Ok(()) => write_rows(rest, &mut out),
-        Err(refusal) => write_refusal(refusal, &mut out),
+        Ok(()) => write_rows(rest, &mut out, write),
+        Err(refusal) => write(&Err(refusal), &mut out),
     }
     out
 }
 
 /// The answers to the rows that follow the name line. An empty rest is no row; an empty line with its LF is one.
-fn write_rows(mut rest: &[u8], out: &mut Vec<u8>) {
+fn write_rows(mut rest: &[u8], out: &mut Vec<u8>, write: impl Fn(&Outcome, &mut Vec<u8>)) {
     while !rest.is_empty() {
         let (row, after) = cut_line(rest);
-        match plan_row(row) {
-            Ok(plan) => write_plan(&plan, out),
-            Err(refusal) => write_refusal(refusal, out),
-        }
+        write(&plan_row(row), out);
         rest = after;
     }
 }
@@ -183,6 +197,53 @@ mod tests {
         assert_eq!(program(&input), format!("{P1_PLAN}R 2 1\n").as_bytes());
         input.push(b' ');
         assert_eq!(program(&input), b"R 9 0\n");
+    }
+
+    fn explained(input: &str) -> String {
+        String::from_utf8(explanations(input.as_bytes())).unwrap()
+    }
+
+    #[test]
+    fn explanations_of_rows() {
+        let rows = ["8 4 1 2 1 0 0 0 1 19 7 0", P1, "", "8 4 1 4 4 0 0 1 1 19 7 0"];
+        let expected = "The value of BURST is outside its range: it is 0.\n\
+                        The row is planned.\n\
+                        The value of BO is unreadable or missing.\n\
+                        A router would have more than 7 reservations: NE is 4 and NR is 4.\n";
+        assert_eq!(explained(&format!("{NAMES}\n{}\n", rows.join("\n"))), expected);
+        assert_eq!(explained(&format!("{NAMES}\n{}", rows.join("\n"))), expected);
+    }
+
+    #[test]
+    fn one_line_is_all_that_is_explained() {
+        let names = "The line of names differs or is missing.\n";
+        assert_eq!(explained(""), names);
+        assert_eq!(explained("\n"), names);
+        assert_eq!(explained(&format!("{P1}\n{P1}\n")), names);
+        assert_eq!(explained(&" ".repeat(INPUT_LIMIT)), names);
+        assert_eq!(explained(&" ".repeat(INPUT_LIMIT + 1)), "The input is over 65,536 bytes.\n");
+        assert_eq!(explained(NAMES), "");
+        assert_eq!(explained(&format!("{NAMES}\n")), "");
+    }
+
+    /// Each explanation has the number and place of the `R` line in its stead.
+    #[test]
+    fn explanations_answer_the_lines_of_plan() {
+        let mut rng = crate::rows::Rng::new(9);
+        for _ in 0..500 {
+            let input = crate::rows::text(&mut rng);
+            let explained = explanations(&input);
+            let lines = explained.split_inclusive(|&byte| byte == b'\n');
+            let read = lines.map(|line| crate::read_reason(&line[..line.len() - 1]).unwrap_or((0, 0)));
+            let plans = program(&input);
+            let heads = plans.split_inclusive(|&byte| byte == b'\n').filter_map(|line| match line {
+                HEADER => Some("R 0 0".to_string()),
+                [b'R', ..] => Some(String::from_utf8_lossy(line).trim_end().to_string()),
+                _ => None,
+            });
+            let read: Vec<_> = read.map(|(number, place)| format!("R {number} {place}")).collect();
+            assert_eq!(read, heads.collect::<Vec<_>>());
+        }
     }
 
     #[test]

@@ -2,7 +2,7 @@
 
 use crate::air::{Air, Reservation};
 use crate::settings::Settings;
-use crate::Refusal;
+use crate::{Phrase, Refusal};
 
 /// Reservations of a router's superframe, for its end nodes and child routers together.
 const MOST_RESERVATIONS: u64 = 7;
@@ -52,16 +52,20 @@ pub struct Tree<'a> {
 /// Conditions 5, 6 and 7.
 pub fn reserve(settings: &Settings) -> Result<Tree<'_>, Refusal> {
     if settings.end_nodes + settings.routers > MOST_RESERVATIONS {
-        return Err(Refusal { number: 5, place: 0 });
+        return Err(Refusal::new(Phrase::Reservations, 0, [settings.end_nodes, settings.routers]));
     }
-    if router_count(settings) > 1 << (settings.beacon_order - settings.superframe_order) {
-        return Err(Refusal { number: 6, place: 0 });
+    let routers = router_count(settings);
+    let superframes = 1 << (settings.beacon_order - settings.superframe_order);
+    if routers > superframes {
+        return Err(Refusal::new(Phrase::Routers, 0, [routers, superframes]));
     }
     let tree = Tree::new(settings);
-    match (0..=settings.height).find(|&depth| tree.slots_used(depth) > tree.air.reservable) {
-        Some(depth) => Err(Refusal { number: 7, place: depth as u32 }),
-        None => Ok(tree),
+    for depth in 0..=settings.height {
+        if let Some(used) = tree.slots_used(depth).find(|&used| used > tree.air.reservable) {
+            return Err(Refusal::new(Phrase::Slots, depth as u32, [used, tree.air.reservable]));
+        }
     }
+    Ok(tree)
 }
 
 /// The sum of NR^j for j = 0 to H; it is 1 where H = 0. It is at most the sum of 7^j for j = 0 to 12, below 2^34.
@@ -107,20 +111,25 @@ impl Tree<'_> {
         self.settings.own * sensor + self.settings.end_nodes * left_end_node
     }
 
-    /// Slots used at a depth; where the depth has both sorts of router, the larger figure. The root is on the sink's
-    /// path if SINK > 0, and there is no other router at its depth.
-    fn slots_used(&self, depth: usize) -> u64 {
+    /// Slots used by each sort of router that a depth has: those off the sink's path first, then the one on it.
+    fn slots_used(&self, depth: usize) -> impl Iterator<Item = u64> {
         let end_nodes = self.settings.end_nodes * self.end_node.slots;
-        if depth == self.settings.height {
-            return end_nodes;
-        }
-        let child = self.up[depth + 1].slots;
-        let off_path = self.settings.routers * child;
-        if depth >= self.settings.sink {
-            return end_nodes + off_path;
-        }
-        let on_path = (self.settings.routers - 1) * child + self.down[depth].slots;
-        end_nodes + if depth == 0 { on_path } else { on_path.max(off_path) }
+        let children = [self.slots_off_path(depth), self.slots_on_path(depth)];
+        children.into_iter().flatten().map(move |slots| end_nodes + slots)
+    }
+
+    /// Slots for the child routers of a router off the sink's path: NR upward links, none at depth H. The root is on
+    /// the path if SINK > 0, and there is no other router at its depth.
+    fn slots_off_path(&self, depth: usize) -> Option<u64> {
+        let child = if depth < self.settings.height { self.up[depth + 1].slots } else { 0 };
+        (depth > 0 || self.settings.sink == 0).then_some(self.settings.routers * child)
+    }
+
+    /// Slots for the child routers of the router on the sink's path: one of the NR upward links is replaced by the
+    /// downward one.
+    fn slots_on_path(&self, depth: usize) -> Option<u64> {
+        let on_path = depth < self.settings.sink;
+        on_path.then(|| (self.settings.routers - 1) * self.up[depth + 1].slots + self.down[depth].slots)
     }
 
     /// The lines of the plan.
@@ -215,7 +224,7 @@ impl Bursts<'_> {
 #[cfg(test)]
 pub fn fullest(settings: &Settings) -> (u64, u64) {
     let tree = Tree::new(settings);
-    let used = (0..=settings.height).map(|depth| tree.slots_used(depth)).max();
+    let used = (0..=settings.height).flat_map(|depth| tree.slots_used(depth)).max();
     (used.unwrap_or(0), tree.air.reservable)
 }
 
@@ -288,6 +297,39 @@ mod tests {
         assert_eq!(refusal("14 5 5 2 3 0 5 1 1 30 1 0"), Some((7, 4)));
         assert_eq!(refusal("14 3 6 2 1 0 6 1 1 12 1 0"), Some((7, 5)));
         assert_eq!(refusal("14 6 7 2 1 0 7 1 1 55 1 1"), Some((7, 6)));
+    }
+
+    /// Place and values of a refusal with number 7.
+    fn slots(row: &str) -> Option<(u32, [u64; 2])> {
+        let refusal = plan_row(row.as_bytes()).err().filter(|refusal| refusal.number == 7);
+        refusal.map(|refusal| (refusal.place, refusal.values))
+    }
+
+    /// S = 60 and X = 104: 2 slots for each of 3 end nodes, 6 for an upward link of rate 3, 11 for the downward one of
+    /// rate 6. A root with the sink below it has one upward link less.
+    #[test]
+    fn slots_used_at_the_root() {
+        assert_eq!(slots("14 0 1 2 3 0 0 1 1 19 7 0"), Some((0, [3 * 2 + 2 * 6, 8])));
+        assert_eq!(slots("14 0 1 2 3 0 1 1 1 19 7 0"), Some((0, [3 * 2 + 6 + 11, 8])));
+    }
+
+    /// S = 120 and X = 48: 1 slot for each of 3 end nodes. The root just fits with 4 slots for rate 9 from below and 5
+    /// for rate 12 to below. At depth 1 a router off the path uses 7, the one on it 2 for rate 3 and 8 for rate 18.
+    #[test]
+    fn slots_used_on_the_path_where_those_off_it_fit() {
+        assert_eq!(slots("14 1 2 2 3 0 2 1 1 11 1 0"), Some((1, [3 + 2 + 8, 12])));
+    }
+
+    #[test]
+    fn both_sorts_of_router() {
+        let used = |row: &str| {
+            let settings = crate::settings::read(row.as_bytes()).ok().unwrap();
+            let tree = Tree::new(&settings);
+            (0..=settings.height).map(|depth| tree.slots_used(depth).collect()).collect::<Vec<Vec<u64>>>()
+        };
+        assert_eq!(used("14 1 2 2 3 0 2 1 1 11 1 0"), [vec![12], vec![7, 13], vec![3]]);
+        assert_eq!(used("14 1 2 2 3 0 1 1 1 11 1 0"), [vec![12], vec![7], vec![3]]);
+        assert_eq!(used("14 1 2 2 3 0 0 1 1 11 1 0"), [vec![11], vec![7], vec![3]]);
     }
 
     /// The rate of the sink's line is that of all sensors: a full tree's routers, each with NE + OWN of them.

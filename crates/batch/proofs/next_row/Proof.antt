@@ -25,7 +25,7 @@ unfolding rowAt piece
 returns c =
     let a = c .before .before .before .before .before .before .args in
     let e = sym (c .before .before .before .next-line .ensures) ∙ c .before .enum-told .given .1 in
-    (rw (c .rows-from .ensures) (ap (λ (l : Line). piece (rowAt (a .input .now) (a .at) l)) (sym e)), (omega arith, rw e))
+    (rw (c .rows-from .ensures) (ap (λ (l : Line). piece (rowAt (a .style) (a .input .now) (a .at) l)) (sym e)), (omega arith, rw e))
 
 part-requires : tie.Need-part-requires
 part-requires c κs = search needs

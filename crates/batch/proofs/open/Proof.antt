@@ -14,8 +14,8 @@ check-input-requires c κs = search needs
 enum-known-verdict : tie.Need-enum-known-verdict
 enum-known-verdict c = search needs
 
-put-refusal-requires : tie.Need-put-refusal-requires
-put-refusal-requires c κs = search needs
+put-refused-requires : tie.Need-put-refused-requires
+put-refused-requires c κs = search needs
 
 rows-from-requires : tie.Need-rows-from-requires
 rows-from-requires c κs = search needs
@@ -27,8 +27,8 @@ returns : tie.Need-returns
 unfolding piece
 returns c =
     let a = c .before .before .before .before .before .before .before .before .before .before .before .args in
-    let e = opening-refused (a .input .now) _ (sym (c .before .before .before .before .before .before .before .before .check-input .ensures) ∙ c .before .before .before .before .before .before .verdict .given .1) in
-    let put = c .before .before .before .put-refusal .ensures in
+    let e = opening-refused (a .style) (a .input .now) _ (sym (c .before .before .before .before .before .before .before .before .check-input .ensures) ∙ c .before .before .before .before .before .before .verdict .given .1) in
+    let put = c .before .before .before .put-refused .ensures in
     let next : c .rows-from .result ≡ rowsFrom (length (a .input .now)) = c .rows-from .ensures in
     (rw (e, next, put .0), (put .1 .0, rw e (put .1 .1)))
 
@@ -48,7 +48,7 @@ returns-2 : tie.Need-returns-2
 unfolding piece
 returns-2 c =
     let a = c .before .before .before .before .before .before .before .before .args in
-    let e = opening-named (a .input .now) (sym (c .before .before .before .before .before .check-input .ensures) ∙ c .before .before .before .enum-told .given .1) in
+    let e = opening-named (a .style) (a .input .now) (sym (c .before .before .before .before .before .check-input .ensures) ∙ c .before .before .before .enum-told .given .1) in
     (rw (e, c .rows-from2 .ensures, c .before .line-end .ensures, c .before .before .next-line .ensures), (omega arith, rw e))
 
 pub open-spec : {M : Type 1} → statement M
@@ -57,7 +57,7 @@ open-spec =
     (tie.spec
     check-input-requires
     enum-known-verdict
-    put-refusal-requires
+    put-refused-requires
     rows-from-requires
     same-length
     returns

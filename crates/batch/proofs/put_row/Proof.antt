@@ -1,63 +1,41 @@
 -- `batch::put_row` meets its contract. Assumes nothing.
-use mathlib.Core.Path.{_≡_, ap, ap₂, _∙_}
-use mathlib.Core.List.{List}
-use Prim.Native.Nat.{ℕ}
-use lib.ListN.{length}
-use lib.Seq.{sets}
 use borrow.Author.Needs.{needs}
-use Rattle.answers.specs.Outcomes.{rowOutcome}
-use Rattle.batch.proofs.Inputs.{row-refused, row-none, row-planned, row-length}
 use Rattle.batch.proofs.put_row.Statement.{statement}
 use Rattle.batch.proofs.put_row.Tie as tie
 
-plan-row-requires : tie.Need-plan-row-requires
-plan-row-requires c κs = search needs
+enum-told : tie.Need-enum-told
+enum-told c = search needs
 
-enum-known-verdict : tie.Need-enum-known-verdict
-enum-known-verdict c = search needs
+put-plan-requires : tie.Need-put-plan-requires
+put-plan-requires c κs = search needs
 
-put-refusal-requires : tie.Need-put-refusal-requires
-put-refusal-requires c κs = search needs
+enum-told-2 : tie.Need-enum-told-2
+enum-told-2 c = search needs
+
+put-reason-requires : tie.Need-put-reason-requires
+put-reason-requires c κs = search needs
 
 same-length : tie.Need-same-length
 same-length c = search needs
 
 returns : tie.Need-returns
-returns c =
-    let a = c .before .before .before .before .before .before .before .before .before .before .before .before .before .args in
-    let o = rowOutcome (a .row .now) in
-    let plan = c .before .before .before .before .before .before .before .before .before .plan-row in
-    let w = plan .ensures in
-    let broken = c .before .before .before .before .before .verdict .given .1 in
-    let put = c .before .before .put-refusal .ensures in
-    let e = row-refused o (plan .result) (w .0) _ broken in
-    let same : plan .last .1 .0 ≡ a .out .now = w .1 .1 ∙ ap (λ (t : List ℕ). sets (a .out .now) 0 t) (row-none o (plan .result) (w .0) _ broken) in
-    (put .0 ∙ ap length e, (put .1 .0, put .1 .1 ∙ ap₂ (λ (b t : List ℕ). sets b 0 t) same e))
-
-enum-told : tie.Need-enum-told
-enum-told c = search needs
+returns c = rw (c .before .before .before .before .enum-told .given .1) (c .before .before .put-plan .ensures)
 
 same-length-2 : tie.Need-same-length-2
 same-length-2 c = search needs
 
 returns-2 : tie.Need-returns-2
-returns-2 c =
-    let a = c .before .before .before .before .before .before .before .before .args in
-    let o = rowOutcome (a .row .now) in
-    let plan = c .before .before .before .before .plan-row in
-    let w = plan .ensures in
-    let e = row-planned o (plan .result) (w .0) (c .enum-told .given .1) in
-    (row-length o (plan .result) (w .0) ∙ ap length e, (w .1 .0, w .1 .1 ∙ ap (λ (t : List ℕ). sets (a .out .now) 0 t) e))
+returns-2 c = rw (c .before .before .before .before .enum-told2 .given .1) (c .before .before .put-reason .ensures)
 
 pub put-row-spec : {M : Type 1} → statement M
 put-row-spec =
     tie.close
     (tie.spec
-    plan-row-requires
-    enum-known-verdict
-    put-refusal-requires
+    enum-told
+    put-plan-requires
+    enum-told-2
+    put-reason-requires
     same-length
     returns
-    enum-told
     same-length-2
     returns-2)

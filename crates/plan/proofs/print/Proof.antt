@@ -3,6 +3,7 @@ use mathlib.Core.Path.{_≡_, sym}
 use native.Mathlib.Omega.{arith}
 use lib.ListN.{length}
 use lib.Seq.{length-take-le}
+use Rattle.batch.specs.declared.Style.the-variants.{Plans}
 use Rattle.batch.specs.Laws.{toGo}
 use Rattle.batch.proofs.LawsHold.{piece-nearer}
 use borrow.Author.Needs.{needs}
@@ -37,7 +38,7 @@ array-share-prefix-out c = search needs
 slice-aggregate-write-all : tie.Need-slice-aggregate-write-all Inv-loop μ-loop
 slice-aggregate-write-all c =
     let next = c .before .before .before .before .next-piece in
-    sym (length-take-le (next .result .length) (next .last .1 .1 .0) (omega (arith, next .ensures .1 .0, next .kept .1 .1 .0)))
+    sym (length-take-le (next .result .length) (next .last .1 .1 .1 .0) (omega (arith, next .ensures .1 .0, next .kept .1 .1 .1 .0)))
 
 write-all-requires : tie.Need-write-all-requires Inv-loop μ-loop
 write-all-requires c κs = search needs
@@ -47,7 +48,7 @@ returns-2 c = search needs
 
 loop-less : tie.Need-loop-less Inv-loop μ-loop
 loop-less c =
-    piece-nearer (c .before .before .before .before .before .before .before .before .before .before .before .before .args .input .now) (c .before .before .before .before .before .before .before .before .before .loop .progress) (c .before .before .before .before .before .before .before .next-piece .result) (c .before .before .before .before .before .before .before .next-piece .ensures .0) (not-false _ (c .before .before .before .before .if1 .left))
+    piece-nearer Plans (c .before .before .before .before .before .before .before .before .before .before .before .before .args .input .now) (c .before .before .before .before .before .before .before .before .before .loop .progress) (c .before .before .before .before .before .before .before .next-piece .result) (c .before .before .before .before .before .before .before .next-piece .ensures .0) (not-false _ (c .before .before .before .before .if1 .left))
 
 loop-again : tie.Need-loop-again Inv-loop μ-loop
 loop-again c = search needs

@@ -3,7 +3,7 @@ use Rattle.row.specs.Names.{isNameLine, nameLine}
 use Rattle.settings.specs.Columns.{table}
 use Rattle.decimal.specs.Ascii.{ascii}
 use Rattle.lines.specs.Text.{joined}
-use Rattle.row.proofs.Sameness.{same-decided}
+use Rattle.lines.proofs.Sameness.{same-decided}
 use borrow.Author.Needs.{needs}
 use Rattle.row.proofs.names_match.Statement.{statement}
 use Rattle.row.proofs.names_match.Tie as tie

@@ -1,6 +1,6 @@
 //! What can be reached at all: refusals at places, and shapes of planned trees.
 
-use crate::{Kind, Outcome, Refusal};
+use crate::{Kind, Outcome};
 use std::collections::BTreeMap;
 
 /// The depths that can be the first with too few slots (condition 7). Found by `search` below, which goes through every
@@ -12,10 +12,10 @@ const OVERFULL_DEPTHS: [u32; 6] = [0, 1, 2, 4, 5, 6];
 const HIGHEST_WITH_SINK_AT_ROOT: u64 = 12;
 const HIGHEST_WITH_SINK_BELOW: u64 = 8;
 
-/// Every refusal that a row can get after the name line was found right. Numbers 2 to 6 have every place that the table
-/// of document 01 names for them; that rows for all of them exist is shown by drawing them.
-pub fn reachable_refusals() -> Vec<Refusal> {
-    let at = |number, places: &[u32]| places.iter().map(|&place| Refusal { number, place }).collect::<Vec<_>>();
+/// Number and place of every refusal that a row can get after the name line was found right. Numbers 2 to 6 have every
+/// place that the table of document 01 names for them; that rows for all of them exist is shown by drawing them.
+pub fn reachable_refusals() -> Vec<(u32, u32)> {
+    let at = |number, places: &[u32]| places.iter().map(|&place| (number, place)).collect::<Vec<_>>();
     let columns: Vec<u32> = (1..=12).collect();
     let columns_and_after: Vec<u32> = (1..=13).collect();
     [
@@ -36,10 +36,10 @@ pub fn plannable_shapes() -> Vec<(u64, u64)> {
     at_root.chain(below).collect()
 }
 
-/// How often each refusal and each shape of a plan has occurred.
+/// How often each refusal, by number and place, and each shape of a plan has occurred.
 #[derive(Default)]
 pub struct Seen {
-    pub refusals: BTreeMap<Refusal, u64>,
+    pub refusals: BTreeMap<(u32, u32), u64>,
     pub shapes: BTreeMap<(u64, u64), u64>,
 }
 
@@ -47,7 +47,7 @@ impl Seen {
     /// Counts an outcome. H is the number of upward lines, SINK the depth of the sink's line.
     pub fn note(&mut self, outcome: &Outcome) {
         match outcome {
-            Err(refusal) => *self.refusals.entry(*refusal).or_default() += 1,
+            Err(refusal) => *self.refusals.entry((refusal.number, refusal.place)).or_default() += 1,
             Ok(plan) => {
                 let height = plan.lines.iter().filter(|line| line.kind == Kind::Up).count();
                 let sink = plan.lines.iter().find(|line| line.kind == Kind::Sink).map_or(0, |line| line.depth);
@@ -66,14 +66,14 @@ impl Seen {
     /// What has occurred although the search says that it cannot. A wrong name line (number 1) is no concern here.
     pub fn unexpected(&self) -> Vec<String> {
         let (refusals, shapes) = (reachable_refusals(), plannable_shapes());
-        let refusals = self.refusals.keys().copied().filter(|seen| seen.number != 1 && !refusals.contains(seen));
+        let refusals = self.refusals.keys().copied().filter(|seen| seen.0 != 1 && !refusals.contains(seen));
         let shapes = self.shapes.keys().copied().filter(|shape| !shapes.contains(shape));
         refusals.map(name_refusal).chain(shapes.map(name_shape)).collect()
     }
 }
 
-fn name_refusal(refusal: Refusal) -> String {
-    format!("refusal {} at place {}", refusal.number, refusal.place)
+fn name_refusal((number, place): (u32, u32)) -> String {
+    format!("refusal {number} at place {place}")
 }
 
 fn name_shape((height, sink): (u64, u64)) -> String {

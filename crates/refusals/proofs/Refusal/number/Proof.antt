@@ -32,6 +32,9 @@ enum-told-8 c = search needs
 enum-told-9 : tie.Need-enum-told-9
 enum-told-9 c = search needs
 
+enum-told-10 : tie.Need-enum-told-10
+enum-told-10 c = search needs
+
 returns : tie.Need-returns
 unfolding numberOf
 returns c = rw (c .enum-told .given .1) refl
@@ -68,6 +71,10 @@ returns-9 : tie.Need-returns-9
 unfolding numberOf
 returns-9 c = rw (c .enum-told9 .given .1) refl
 
+returns-10 : tie.Need-returns-10
+unfolding numberOf
+returns-10 c = rw (c .enum-told10 .given .1) refl
+
 pub number-spec : {M : Type 1} → statement M
 number-spec =
     tie.close
@@ -81,6 +88,7 @@ number-spec =
     enum-told-7
     enum-told-8
     enum-told-9
+    enum-told-10
     returns
     returns-2
     returns-3
@@ -89,4 +97,5 @@ number-spec =
     returns-6
     returns-7
     returns-8
-    returns-9)
+    returns-9
+    returns-10)

@@ -17,6 +17,9 @@ enum-known-self-2 c = search needs
 enum-known-self-3 : tie.Need-enum-known-self-3
 enum-known-self-3 c = search needs
 
+enum-known-self-4 : tie.Need-enum-known-self-4
+enum-known-self-4 c = search needs
+
 place-requires : tie.Need-place-requires
 place-requires c κs = search needs
 
@@ -26,8 +29,8 @@ enum-told-2 c = search needs
 enum-told-3 : tie.Need-enum-told-3
 enum-told-3 c = search needs
 
-enum-known-self-4 : tie.Need-enum-known-self-4
-enum-known-self-4 c = search needs
+enum-known-self-5 : tie.Need-enum-known-self-5
+enum-known-self-5 c = search needs
 
 enum-told-4 : tie.Need-enum-told-4
 enum-told-4 c = search needs
@@ -49,27 +52,31 @@ returns-3 c = rw (c .before .self2 .given .1) refl
 
 returns-4 : tie.Need-returns-4
 unfolding placeOf
-returns-4 c = rw (c .before .before .self3 .given .1) (c .place .ensures)
+returns-4 c = rw (c .before .self3 .given .1) refl
 
 returns-5 : tie.Need-returns-5
 unfolding placeOf
-returns-5 c = rw (c .enum-told2 .given .1) refl
+returns-5 c = rw (c .before .before .self4 .given .1) (c .place .ensures)
 
 returns-6 : tie.Need-returns-6
 unfolding placeOf
-returns-6 c = rw (c .enum-told3 .given .1) refl
+returns-6 c = rw (c .enum-told2 .given .1) refl
 
 returns-7 : tie.Need-returns-7
 unfolding placeOf
-returns-7 c = rw (c .before .self4 .given .1) refl
+returns-7 c = rw (c .enum-told3 .given .1) refl
 
 returns-8 : tie.Need-returns-8
 unfolding placeOf
-returns-8 c = rw (c .enum-told4 .given .1) refl
+returns-8 c = rw (c .before .self5 .given .1) refl
 
 returns-9 : tie.Need-returns-9
 unfolding placeOf
-returns-9 c = rw (c .enum-told5 .given .1) refl
+returns-9 c = rw (c .enum-told4 .given .1) refl
+
+returns-10 : tie.Need-returns-10
+unfolding placeOf
+returns-10 c = rw (c .enum-told5 .given .1) refl
 
 pub place-spec : {M : Type 1} → statement M
 place-spec =
@@ -79,10 +86,11 @@ place-spec =
     enum-known-self
     enum-known-self-2
     enum-known-self-3
+    enum-known-self-4
     place-requires
     enum-told-2
     enum-told-3
-    enum-known-self-4
+    enum-known-self-5
     enum-told-4
     enum-told-5
     returns
@@ -93,4 +101,5 @@ place-spec =
     returns-6
     returns-7
     returns-8
-    returns-9)
+    returns-9
+    returns-10)

@@ -7,7 +7,7 @@ use Rattle.decimal.specs.Decimal.{decimal}
 use Rattle.balanced.specs.Lines.{letter}
 use Rattle.report.specs.Text.{lineText}
 use Rattle.report.proofs.LineText.{line-spaced}
-use Rattle.report.proofs.Putting.{Put, put-one, put-behind, byte-behind, put-keeps}
+use Rattle.buffer.proofs.Behind.{Put, put-one, put-behind, byte-behind, put-keeps}
 use Rattle.report.proofs.line.put_ended.Statement.{statement}
 use Rattle.report.proofs.line.put_ended.Tie as tie
 

@@ -5,7 +5,7 @@ use native.Mathlib.Omega.{arith}
 use borrow.Author.Needs.{needs}
 use Rattle.decimal.specs.Decimal.{decimal}
 use Rattle.decimal.proofs.Writing.{at-most-twenty}
-use Rattle.report.proofs.Putting.{put-one, put-behind}
+use Rattle.buffer.proofs.Behind.{put-one, put-behind}
 use Rattle.report.proofs.line.put_spaced.Statement.{statement}
 use Rattle.report.proofs.line.put_spaced.Tie as tie
 

@@ -90,15 +90,15 @@ loop-again c =
     let n = sym (b .read-number .ensures) ∙ c .before .number .given .1 in
     taken-value row (l .numbers) (l .at) (l .k) (l .inv) (b .before .before .before .before .loop-test .taken) (b .before .before .before .if1 .left) end f _ n
 
-unreadable-requires-3 : tie.Need-unreadable-requires-3 Inv-loop μ-loop
-unreadable-requires-3 c κs = search needs
+text-after-requires : tie.Need-text-after-requires Inv-loop μ-loop
+text-after-requires c κs = search needs
 
 returns-3 : tie.Need-returns-3 Inv-loop μ-loop
 returns-3 c =
     let l = c .before .before .before .loop in
     let row = c .before .before .before .before .before .args .row .now in
     let e = taken-after row (l .numbers) (l .at) (l .k) (l .inv) (omega (arith, l .inv .few)) (omega (arith, c .before .if2 .taken)) in
-    let u = c .unreadable3 .ensures in
+    let u = c .text-after .ensures in
     (u ∙ sym e, λ kept. broken-kept _ (sym u ∙ kept))
 
 returns-4 : tie.Need-returns-4 Inv-loop μ-loop
@@ -132,6 +132,6 @@ read-values-spec =
     add-k
     loop-less
     loop-again
-    unreadable-requires-3
+    text-after-requires
     returns-3
     returns-4)

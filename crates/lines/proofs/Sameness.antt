@@ -5,7 +5,7 @@ use mathlib.Core.List.{List, [], _∷_}
 use Prim.Native.Nat.{ℕ}
 use lib.Dec.{eqb}
 use borrow.Author.Tests.{eqb-true, eq-eqb}
-use Rattle.row.specs.Names.{same}
+use Rattle.lines.specs.Text.{same}
 
 pub same-equal : (s t : List ℕ) → same s t ≡ true → s ≡ t
 unfolding same

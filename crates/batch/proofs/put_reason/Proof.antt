@@ -1,0 +1,34 @@
+-- `batch::put_reason` meets its contract. Assumes nothing.
+use mathlib.Core.Path.{ap, _∙_}
+use mathlib.Core.List.{[], _∷_}
+use Rattle.lines.specs.Text.{ended}
+use Rattle.planner.specs.declared.Plan.{Plan}
+use Rattle.answers.specs.Outcomes.{rowOutcome}
+use Rattle.reasons.specs.Reasons.{spoken}
+use Rattle.batch.proofs.Inputs.{spoken-verdict}
+use borrow.Author.Needs.{needs}
+use Rattle.batch.proofs.put_reason.Statement.{statement}
+use Rattle.batch.proofs.put_reason.Tie as tie
+
+slice-aggregate-plan-row : tie.Need-slice-aggregate-plan-row
+slice-aggregate-plan-row c = search needs
+
+plan-row-requires : tie.Need-plan-row-requires
+plan-row-requires c κs = search needs
+
+put-spoken-requires : tie.Need-put-spoken-requires
+put-spoken-requires c κs = search needs
+
+same-length : tie.Need-same-length
+same-length c = search needs
+
+returns : tie.Need-returns
+returns c =
+    let o = rowOutcome (c .before .before .before .before .before .before .before .before .before .args .row .now) in
+    let e = ap (λ (p : Plan). ended (spoken (p .verdict) ∷ [])) (c .before .before .before .before .before .plan-row .ensures .0) ∙ spoken-verdict o in
+    rw e at (c .before .before .put-spoken .ensures)
+
+pub put-reason-spec : {M : Type 1} → statement M
+put-reason-spec =
+    tie.close
+    (tie.spec slice-aggregate-plan-row plan-row-requires put-spoken-requires same-length returns)

@@ -1,0 +1,128 @@
+-- `reasons::columns::put_first_name` meets its contract. Assumes nothing.
+use mathlib.Core.Path.{_≡_}
+use native.Mathlib.Omega.{arith}
+use Rattle.decimal.specs.Ascii.{ascii}
+use Rattle.settings.specs.Columns.{table, columnAt}
+use Rattle.reasons.specs.Reasons.{named, columnName}
+use borrow.Author.Needs.{needs}
+use Rattle.reasons.proofs.columns.put_first_name.Statement.{statement}
+use Rattle.reasons.proofs.columns.put_first_name.Tie as tie
+
+slice-aggregate-put-bytes : tie.Need-slice-aggregate-put-bytes
+slice-aggregate-put-bytes c = search needs
+
+put-bytes-requires : tie.Need-put-bytes-requires
+put-bytes-requires c κs = search needs
+
+same-length : tie.Need-same-length
+same-length c = search needs
+
+returns : tie.Need-returns
+unfolding columnName named table columnAt ascii
+returns c =
+    let z : c .before .before .before .before .before .before .before .args .column ≡ 1 = omega arith in
+    rw z (c .before .before .put-bytes .ensures)
+
+slice-aggregate-put-bytes-2 : tie.Need-slice-aggregate-put-bytes-2
+slice-aggregate-put-bytes-2 c = search needs
+
+put-bytes-requires-2 : tie.Need-put-bytes-requires-2
+put-bytes-requires-2 c κs = search needs
+
+same-length-2 : tie.Need-same-length-2
+same-length-2 c = search needs
+
+returns-2 : tie.Need-returns-2
+unfolding columnName named table columnAt ascii
+returns-2 c =
+    let z : c .before .before .before .before .before .before .before .before .args .column ≡ 2 = omega arith in
+    rw z (c .before .before .put-bytes2 .ensures)
+
+slice-aggregate-put-bytes-3 : tie.Need-slice-aggregate-put-bytes-3
+slice-aggregate-put-bytes-3 c = search needs
+
+put-bytes-requires-3 : tie.Need-put-bytes-requires-3
+put-bytes-requires-3 c κs = search needs
+
+same-length-3 : tie.Need-same-length-3
+same-length-3 c = search needs
+
+returns-3 : tie.Need-returns-3
+unfolding columnName named table columnAt ascii
+returns-3 c =
+    let z : c .before .before .before .before .before .before .before .before .before .args .column ≡ 3 = omega arith in
+    rw z (c .before .before .put-bytes3 .ensures)
+
+slice-aggregate-put-bytes-4 : tie.Need-slice-aggregate-put-bytes-4
+slice-aggregate-put-bytes-4 c = search needs
+
+put-bytes-requires-4 : tie.Need-put-bytes-requires-4
+put-bytes-requires-4 c κs = search needs
+
+same-length-4 : tie.Need-same-length-4
+same-length-4 c = search needs
+
+returns-4 : tie.Need-returns-4
+unfolding columnName named table columnAt ascii
+returns-4 c =
+    let z : c .before .before .before .before .before .before .before .before .before .before .args .column ≡ 4 = omega arith in
+    rw z (c .before .before .put-bytes4 .ensures)
+
+slice-aggregate-put-bytes-5 : tie.Need-slice-aggregate-put-bytes-5
+slice-aggregate-put-bytes-5 c = search needs
+
+put-bytes-requires-5 : tie.Need-put-bytes-requires-5
+put-bytes-requires-5 c κs = search needs
+
+same-length-5 : tie.Need-same-length-5
+same-length-5 c = search needs
+
+returns-5 : tie.Need-returns-5
+unfolding columnName named table columnAt ascii
+returns-5 c =
+    let z : c .before .before .before .before .before .before .before .before .before .before .before .args .column ≡ 5 = omega arith in
+    rw z (c .before .before .put-bytes5 .ensures)
+
+slice-aggregate-put-bytes-6 : tie.Need-slice-aggregate-put-bytes-6
+slice-aggregate-put-bytes-6 c = search needs
+
+put-bytes-requires-6 : tie.Need-put-bytes-requires-6
+put-bytes-requires-6 c κs = search needs
+
+same-length-6 : tie.Need-same-length-6
+same-length-6 c = search needs
+
+returns-6 : tie.Need-returns-6
+unfolding columnName named table columnAt ascii
+returns-6 c =
+    let z : c .before .before .before .before .before .before .before .before .before .before .before .args .column ≡ 6 = omega arith in
+    rw z (c .before .before .put-bytes6 .ensures)
+
+pub put-first-name-spec : {M : Type 1} → statement M
+put-first-name-spec =
+    tie.close
+    (tie.spec
+    slice-aggregate-put-bytes
+    put-bytes-requires
+    same-length
+    returns
+    slice-aggregate-put-bytes-2
+    put-bytes-requires-2
+    same-length-2
+    returns-2
+    slice-aggregate-put-bytes-3
+    put-bytes-requires-3
+    same-length-3
+    returns-3
+    slice-aggregate-put-bytes-4
+    put-bytes-requires-4
+    same-length-4
+    returns-4
+    slice-aggregate-put-bytes-5
+    put-bytes-requires-5
+    same-length-5
+    returns-5
+    slice-aggregate-put-bytes-6
+    put-bytes-requires-6
+    same-length-6
+    returns-6)

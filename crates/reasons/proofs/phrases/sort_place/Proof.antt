@@ -1,0 +1,20 @@
+-- `reasons::phrases::sort_place` meets its contract. Assumes nothing.
+use Rattle.refusals.specs.Refusals.{placeOf, conflictPlace}
+use Rattle.reasons.specs.Reading.{sorts}
+use Rattle.reasons.proofs.Sorts.{place-at}
+use borrow.Author.Needs.{needs}
+use Rattle.reasons.proofs.phrases.sort_place.Statement.{statement}
+use Rattle.reasons.proofs.phrases.sort_place.Tie as tie
+
+mul-result : tie.Need-mul-result
+mul-result c = search needs
+
+array-read-result : tie.Need-array-read-result
+array-read-result c = search needs
+
+returns : tie.Need-returns
+unfolding sorts placeOf conflictPlace
+returns c = place-at (c .args .sort) (c .pre)
+
+pub sort-place-spec : {M : Type 1} → statement M
+sort-place-spec = tie.close (tie.spec mul-result array-read-result returns)

@@ -1,0 +1,71 @@
+-- A line for each number and each place of 4, with number and place had again from it, and lines that are no reason, computed in one
+-- table. Assumes nothing.
+use mathlib.Core.Path.{_≡_}
+use mathlib.Core.List.{List, [], _∷_, map}
+use Prim.Native.Nat.{ℕ}
+use Prim.Native.String.{String}
+use Rattle.decimal.specs.Ascii.{ascii}
+use Rattle.refusals.specs.declared.Refusal.{Refusal}
+use Rattle.refusals.specs.declared.Refusal.the-variants.{Names, Unreadable, TextAfter, OutOfRange, AtOdds, Reservations, Superframes, SlotsUsed, LentTooShort, InputTooLong}
+use Rattle.refusals.specs.declared.Conflict.the-variants.{Orders, Routers, Sensors, SinkDepth, SinkBranches, FrameLength}
+use Rattle.measure.specs.Measures.{slots}
+use Rattle.reasons.specs.declared.Reading.{Reading}
+use Rattle.reasons.specs.declared.Reading.the-variants.{Reason, NoReason}
+use Rattle.reasons.specs.Reasons.{reason}
+use Rattle.reasons.specs.Reading.{readReason}
+
+-- a refusal, its line, and its number and place
+pub record Example : Type 0 where
+  pub refusal : Refusal
+  pub line : String
+  pub reading : Reading
+
+abbrev pub example : Refusal → String → ℕ → ℕ → Example
+example r l n p = record { refusal = r; line = l; reading = Reason n p }
+
+unfoldable pub examples : List Example
+examples =
+    example Names "The line of names differs or is missing." 1 0
+    ∷ example (Unreadable 3) "The value of H is unreadable or missing." 2 3
+    ∷ example (TextAfter 13) "There is text after the last value, where column 13 would be." 2 13
+    ∷ example (OutOfRange 8 0) "The value of BURST is outside its range: it is 0." 3 8
+    ∷ example (AtOdds (Orders 8 4)) "Values are at odds at SO, which may not be above BO: SO is 8 and BO is 4." 4 2
+    ∷ example (AtOdds (Routers 0 1)) "Values are at odds at NR, which is 0 exactly where H is 0: NR is 0 and H is 1." 4 4
+    ∷ example (AtOdds (Sensors 0 0)) "Values are at odds at NE, since nothing senses: NE is 0 and OWN is 0." 4 5
+    ∷ example (AtOdds (SinkDepth 2 1)) "Values are at odds at SINK, which may not be above H: SINK is 2 and H is 1." 4 7
+    ∷ example (AtOdds (SinkBranches 1 1)) "Values are at odds at SINK, which is 0 where NR is below 2: SINK is 1 and NR is 1." 4 7
+    ∷ example (AtOdds (FrameLength 126 2)) "Values are at odds at DATA, which with HEAD may not be above 127: HEAD is 126 and DATA is 2." 4 11
+    ∷ example (Reservations 4 5) "A router would have more than 7 reservations: NE is 4 and NR is 5." 5 0
+    ∷ example (Superframes 3 2) "There are more routers than superframes that fit a beacon interval: 3 against 2." 6 0
+    ∷ example (SlotsUsed 12 (slots 10) (slots 8)) "The slots used at depth 12 are more than can be reserved: 10 used and 8 reservable." 7 12
+    ∷ example LentTooShort "The lent buffer is shorter than the text to be written." 8 0
+    ∷ example InputTooLong "The input is over 65,536 bytes." 9 0
+    -- a column without a name, and the largest numbers of 64 bits
+    ∷ example (OutOfRange 13 18446744073709551615) "The value of 13 is outside its range: it is 18446744073709551615." 3 13
+    ∷ []
+
+-- the theorem; proofs/ExamplesHold proves it by computing both sides
+pub record ExamplesHold : Type 0 where
+  pub lines : map (λ (e : Example). reason (e .refusal)) examples ≡ map (λ (e : Example). ascii (e .line)) examples
+  pub readings : map (λ (e : Example). readReason (ascii (e .line))) examples ≡ map (λ (e : Example). e .reading) examples
+
+-- lines that are no reason: nothing, another sentence, one that goes on or stops short, another column, a number with a leading zero,
+-- a column's number in place of its name, a place past 32 bits
+unfoldable pub others : List String
+others =
+    ""
+    ∷ "The row is planned."
+    ∷ "R 7 0"
+    ∷ "The input is over 65,536 bytes"
+    ∷ "The input is over 65,536 bytes. "
+    ∷ "the input is over 65,536 bytes."
+    ∷ "The value of LF is unreadable or missing."
+    ∷ "The value of 3 is unreadable or missing."
+    ∷ "The value of BURST is outside its range: it is 00."
+    ∷ "The value of BURST is outside its range: it is ."
+    ∷ "Values are at odds at BO, which may not be above BO: SO is 8 and BO is 4."
+    ∷ "The slots used at depth 4294967296 are more than can be reserved: 10 used and 8 reservable."
+    ∷ []
+
+abbrev pub OthersHold : Type 0
+OthersHold = map (λ (s : String). readReason (ascii s)) others ≡ map (λ (s : String). NoReason) others

@@ -1,0 +1,55 @@
+-- What the inner functions answer. Nobody has to believe this: the public functions' contracts do not use it. Assumes nothing: these are
+-- definitions.
+use Prim.Native.Nat.{ℕ, _+_}
+use mathlib.Core.List.{List, [], _∷_}
+use lib.ListN.{getD}
+use Rattle.refusals.specs.declared.Refusal.{Refusal}
+use Rattle.refusals.specs.declared.Refusal.the-variants.{Names, Unreadable, TextAfter, OutOfRange, AtOdds, Reservations, Superframes, SlotsUsed, LentTooShort, InputTooLong}
+use Rattle.refusals.specs.declared.Conflict.{Conflict}
+use Rattle.refusals.specs.declared.Conflict.the-variants.{Orders, Routers, Sensors, SinkDepth, SinkBranches, FrameLength}
+use Rattle.reasons.specs.declared.phrases.Wording.{Wording}
+use Rattle.reasons.specs.Reasons.{phraseOf, valuesOf, Part, Byte, Name, Place, Value}
+use Rattle.reasons.specs.Reading.{sorts}
+
+-- the sort behind the first k, and its phrase
+unfoldable pub sortAt : ℕ → Refusal
+sortAt k = getD sorts k Names
+
+unfoldable pub phraseAt : ℕ → List ℕ
+phraseAt k = phraseOf (sortAt k)
+
+-- the position of a refusal's sort
+unfoldable pub conflictSort : Conflict → ℕ
+conflictSort (Orders so bo) = 4
+conflictSort (Routers nr h) = 5
+conflictSort (Sensors ne own) = 6
+conflictSort (SinkDepth sink h) = 7
+conflictSort (SinkBranches sink nr) = 8
+conflictSort (FrameLength head payload) = 9
+
+unfoldable pub sortOf : Refusal → ℕ
+sortOf Names = 0
+sortOf (Unreadable column) = 1
+sortOf (TextAfter column) = 2
+sortOf (OutOfRange column value) = 3
+sortOf (AtOdds conflict) = conflictSort conflict
+sortOf (Reservations ne nr) = 10
+sortOf (Superframes routers superframes) = 11
+sortOf (SlotsUsed depth used reservable) = 12
+sortOf LentTooShort = 13
+sortOf InputTooLong = 14
+
+-- how a refusal is worded: its sort, and the values concerned, as two numbers of which some phrases take none or one
+unfoldable pub wording : Refusal → Wording
+wording r = record { sort = sortOf r; first = getD (valuesOf r) 0 0; second = getD (valuesOf r) 1 0 }
+
+abbrev pub twoValues : Refusal → List ℕ
+twoValues r = getD (valuesOf r) 0 0 ∷ getD (valuesOf r) 1 0 ∷ []
+
+-- how long a phrase is at most, its gaps filled with numbers of 64 bits
+unfoldable pub most : List Part → ℕ
+most [] = 0
+most (Byte b ∷ xs) = 1 + most xs
+most (Name ∷ xs) = 20 + most xs
+most (Place ∷ xs) = 20 + most xs
+most (Value ∷ xs) = 20 + most xs
