@@ -57,6 +57,15 @@ static void show_plan(char *text)
     }
 }
 
+/* Says in English why a row was refused. */
+static void show_reason(const char *names, size_t names_length, const char *row, size_t row_length)
+{
+    uint8_t line[PLANNER_LONGEST_REASON];
+    planner_answer a =
+        planner_explain_row((const uint8_t *)names, names_length, (const uint8_t *)row, row_length, line, sizeof line);
+    printf("  refused with number %" PRIu32 ", place %" PRIu32 ": %.*s\n", a.number, a.place, (int)a.length, (const char *)line);
+}
+
 /* Plans one row; answers whether it was planned. The first call says how long the text is, the second writes it. */
 static int plan_row(const char *names, size_t names_length, const char *row, size_t row_length)
 {
@@ -64,7 +73,7 @@ static int plan_row(const char *names, size_t names_length, const char *row, siz
     char *text;
     printf("%.*s\n", (int)row_length, row);
     if (a.number != 0) {
-        printf("  refused: number %" PRIu32 ", place %" PRIu32 "\n", a.number, a.place);
+        show_reason(names, names_length, row, row_length);
         return 0;
     }
     text = malloc(a.length + 1);

@@ -12,6 +12,12 @@
  *     else
  *         printf("R %u %u\n", (unsigned)a.number, (unsigned)a.place);
  *
+ * and, for people, one line of English:
+ *
+ *     uint8_t line[PLANNER_LONGEST_REASON];
+ *     planner_answer e = planner_explain_row(names, names_length, row, row_length, line, sizeof line);
+ *     fwrite(line, 1, e.length, stdout);
+ *
  * Names and rows
  *
  *     names   the line of names, without its line end:
@@ -33,16 +39,30 @@
  *                 5  NE + NR > 7 reservations                    0
  *                 6  more routers than superframes fit           0
  *                 7  slots used exceed those reservable          the first such depth
- *                 8  text_length is less than the text's length  0
+ *                 8  text_length is less than the text's length  0 (in planner_explain_row and planner_explain_refusal:
+ *                    line_length is less than the line's)
  *                 The first that applies, in this order.
  *
  * The text has a header line and one line for each kind of link, each ended by a line feed, and no 0 byte at its end.
  *
+ * Lines of English
+ *
+ *     A reason is one line of printable ASCII without a line end, as
+ *
+ *         The value of BURST is outside its range: it is 0.
+ *         The slots used at depth 0 are more than can be reserved: 10 used and 8 reservable.
+ *
+ *     with the column's name or the depth, and the values that were compared. Number and place can be had again from it
+ *     (planner_read_reason). Reasons of 1 to 7 come from planner_explain_row. Number 8 of planner_plan_row concerns no value of the row:
+ *     planner_explain_refusal(8, 0, ..) puts its line, and likewise that of 9, which programs give that limit their input.
+ *
  * What the caller sees to
  *
- *     - Each pointer is valid for as many bytes as the length beside it: names and row for reading, text for reading and writing.
- *     - A pointer beside length 0 is not used and may be NULL: no names (1), a row without values (2, place 1), no room for a text (8).
- *     - text does not overlap names or row, and nobody else changes any of them during the call.
+ *     - Each pointer is valid for as many bytes as the length beside it: names, row and a line that is read for reading, text and a line
+ *       that is put for reading and writing.
+ *     - A pointer beside length 0 is not used and may be NULL: no names (1), a row without values (2, place 1), no room for a text or a
+ *       line (8), a line that is no reason.
+ *     - What is written does not overlap what is read, and nobody else changes any of it during the call.
  *     - No length is above PTRDIFF_MAX (no object of C is).
  *     - 16 KB of stack are free (under 10 KB were measured, for a tree of 12 depths).
  *
@@ -61,11 +81,19 @@ extern "C" {
 /* No plan's text is longer: a buffer of this length is never refused with 8. */
 #define PLANNER_LONGEST_TEXT 4476
 
+/* No line of English is longer: a buffer of this length is never refused with 8. */
+#define PLANNER_LONGEST_REASON 160
+
 typedef struct planner_answer {
     uint32_t number; /* 0: planned; else the refusal's number */
     uint32_t place;  /* the refusal's place: a column, a depth, or 0 */
     uint64_t length; /* the text's length in bytes; 0 where refused */
 } planner_answer;
+
+typedef struct planner_refusal {
+    uint32_t number; /* the refusal's number; 0: none */
+    uint32_t place;  /* its place */
+} planner_refusal;
 
 /*
  * Plans a row and writes nothing: number, place and the length of the plan's text. Number 8 is never answered.
@@ -78,6 +106,26 @@ planner_answer planner_check_row(const uint8_t *names, size_t names_length, cons
  */
 planner_answer planner_plan_row(const uint8_t *names, size_t names_length, const uint8_t *row, size_t row_length, uint8_t *text,
                                 size_t text_length);
+
+/*
+ * Plans a row and puts one line of English at the front of line: why the row is refused with one of numbers 1 to 7, or 'The row is
+ * planned.'. The answer has number and place of the refusal, 0 and 0 where the row is planned, and the line's length. The bytes behind
+ * the line keep their values. Where line_length is less than the line's length the answer is 8, 0, 0, and every byte keeps its value.
+ */
+planner_answer planner_explain_row(const uint8_t *names, size_t names_length, const uint8_t *row, size_t row_length, uint8_t *line,
+                                   size_t line_length);
+
+/*
+ * Puts the line of a refusal that number and place alone determine: 1, 8 and 9, each at place 0. The answer is 0, 0 and the line's
+ * length; for any other number and place 0, 0, 0, and nothing is put. 8, 0, 0 as above.
+ */
+planner_answer planner_explain_refusal(uint32_t number, uint32_t place, uint8_t *line, size_t line_length);
+
+/*
+ * Number and place of the refusal whose line it is; 0 and 0 where the line is no reason. A line that a call above put is read as the
+ * number and the place that it is of; a line is a reason only if it is the line of some refusal, to the last byte.
+ */
+planner_refusal planner_read_reason(const uint8_t *line, size_t line_length);
 
 #ifdef __cplusplus
 }

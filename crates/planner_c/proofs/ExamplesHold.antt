@@ -1,13 +1,18 @@
 -- The examples of specs/Examples, computed. Assumes nothing.
-use mathlib.Core.Path.{refl}
+use mathlib.Core.Path.{_≡_, refl, sym, _∙_}
+use Prim.Native.Nat.{ℕ}
+use native.Mathlib.Omega.{arith}
+use lib.ListN.{take}
 use Rattle.lines.specs.Text.{ended}
 use Rattle.answers.proofs.Computing.{answered}
 use Rattle.report.specs.Text as report
 use Rattle.planner.specs.Plans as planner
+use Rattle.reasons.specs.declared.Reading.the-variants.{Reason}
+use Rattle.reasons.specs.Reading.{readReason}
 use Rattle.reasons.proofs.Computing.{worded, taken-in}
 use Rattle.planner_c.specs.Entries.{told, filled, room, entryOutcome, planRow, checkRow}
 use Rattle.planner_c.specs.Reasons.{lineLeft, rowLine, explainRow, plain, lineAmong, explainRefusal, numbered}
-use Rattle.planner_c.specs.Examples.{lent, text, call, planned, refused, Examples, line, explained, Spoken}
+use Rattle.planner_c.specs.Examples.{lent, text, call, planned, refused, Examples, line, explained, Spoken, OtherPlaceBreaks}
 
 pub examples-hold : Examples
 unfolding answered worded ended report.header report.numbers report.lineText report.text told filled room entryOutcome planRow checkRow lent text call planned refused
@@ -43,3 +48,13 @@ spoken-hold = record {
   read = refl;
   readNone = refl;
 }
+
+line-read : readReason (take 82 line) ≡ Reason 7 0
+unfolding taken-in line
+line-read = refl
+
+pub other-place-breaks : OtherPlaceBreaks
+other-place-breaks again =
+    let e = sym line-read ∙ again (omega arith) (omega arith) in
+    let z : _≡_ {A = ℕ} 0 1 = cc in
+    omega arith

@@ -8,7 +8,7 @@ use Rattle.decimal.specs.Ascii.{ascii}
 use Rattle.planner_c.specs.declared.Answer.{Answer}
 use Rattle.reasons.specs.Reading.{readReason}
 use Rattle.planner_c.specs.Entries.{Left, left, planRow, checkRow}
-use Rattle.planner_c.specs.Reasons.{explainRow, explainRefusal, numbered}
+use Rattle.planner_c.specs.Reasons.{explainRow, explainRefusal, numbered, ReadAgain}
 
 abbrev pub answer : ℕ → ℕ → ℕ → Answer
 answer number place length = record { number = number; place = place; length = length }
@@ -71,3 +71,7 @@ pub record Spoken : Type 0 where
   pub seven : explainRefusal 7 0 (lent 3) ≡ left (answer 0 0 0) (lent 3)
   pub read : numbered (readReason line) ≡ record { number = 7; place = 0 }
   pub readNone : numbered (readReason (ascii "R 7 0")) ≡ record { number = 0; place = 0 }
+
+-- that number and place can be had again says something: it does not hold of P4's line with another place
+abbrev pub OtherPlaceBreaks : Type 0
+OtherPlaceBreaks = ¬ ReadAgain (answer 7 1 82) line

@@ -107,15 +107,15 @@ fn part_end(line: &[u8], at: usize, part: u8) -> usize
 }
 
 // One byte behind a position, or the line's end.
-fn byte_end(line: &[u8], at: usize) -> usize
-    requires { ⌜ at ≤ length (now line) ⌝ }
-    ensures { λ r. ⌜ r ≡ at + min 1 (length (drop at (now (line .entry)))) ⌝ }
+fn byte_end(line: &[u8], from: usize) -> usize
+    requires { ⌜ from ≤ length (now line) ⌝ }
+    ensures { λ r. ⌜ r ≡ from + min 1 (length (drop from (now (line .entry)))) ⌝ }
     ensures { λ r. ⌜ r ≤ length (now (line .entry)) ⌝ }
 {
-    if at < line.len() {
-        return at + 1;
+    if from < line.len() {
+        return from + 1;
     }
-    at
+    from
 }
 
 // Where the word at a position ends.

@@ -1,5 +1,5 @@
-//! Request E1 of document 02, "Reasons a caretaker can read": a refusal as one English line, "composed of the number's
-//! phrase, the column's name or the depth, and the values concerned".
+//! Request E1 of document 02: a refusal as one English line, "composed of the number's phrase, the column's name or the
+//! depth, and the values concerned".
 
 mod reading;
 

@@ -7,7 +7,7 @@ use Rattle.planner_c.proofs.reason.put_plain.Statement.{statement}
 use Rattle.planner_c.proofs.reason.put_plain.Tie as tie
 
 returns : tie.Need-returns
-returns c = let a = c .before .before .args in rw (line-elsewhere (a .number) (a .place) (c .if1 .taken)) (refl, (omega arith, refl))
+returns c = let a = c .before .before .args in rw (line-elsewhere (a .number) (a .place) (omega (arith, c .if1 .taken))) (refl, (omega arith, refl))
 
 put-reason-requires : tie.Need-put-reason-requires
 put-reason-requires c κs = search needs
