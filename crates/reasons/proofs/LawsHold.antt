@@ -1,10 +1,9 @@
 -- The laws of specs/Laws. Assumes nothing.
-use mathlib.Core.Path.{_≡_, refl, ap, sym, _∙_}
-use mathlib.Core.Bool.{Bool, true, false, _&&_, and-eq-true-iff, false≢true}
+use mathlib.Core.Path.{_≡_, refl, ap, _∙_}
+use mathlib.Core.Bool.{true, and-eq-true-iff}
 use mathlib.Core.List.{List, [], _∷_, _++_, map}
 use Prim.Native.Nat.{ℕ, suc, _^_, _<_}
 use native.Mathlib.Omega.{arith}
-use lib.Dec.{ltb}
 use lib.ListN.{length, getD, take, drop}
 use lib.Seq.{split-at}
 use borrow.Author.Tests.{ltb-true}
@@ -18,8 +17,7 @@ use Rattle.measure.specs.Measures.{slots}
 use Rattle.settings.specs.Columns.{table, columnAt}
 use Rattle.reasons.specs.declared.Match.{Match}
 use Rattle.reasons.specs.declared.Match.the-variants.{At, Nowhere}
-use Rattle.reasons.specs.declared.Reading.{Reading}
-use Rattle.reasons.specs.declared.Reading.the-variants.{Reason, NoReason}
+use Rattle.reasons.specs.declared.Reading.the-variants.{Reason}
 use Rattle.reasons.specs.Reasons.{named, columnName, ruleOf, phraseOf, valuesAtOdds, valuesOf, Part, partOf, partText, taken, filled, reason}
 use Rattle.reasons.specs.Reading.{matched, sorts, readAs, readFrom, readReason}
 use Rattle.reasons.specs.Laws.{ReadBack, ReasonOf, OnlyReasons, PrintableReasons}

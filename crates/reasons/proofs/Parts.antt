@@ -1,13 +1,13 @@
 -- The parts of a phrase, by their bytes. Assumes nothing.
 use mathlib.Core.Path.{_≡_, refl}
 use mathlib.Core.Bool.{Bool, true, false, cond}
-use mathlib.Core.List.{List, [], _∷_}
+use mathlib.Core.List.{[], _∷_}
 use Prim.Native.Nat.{ℕ, zero, suc, _^_, _<_}
 use native.Mathlib.Omega.{arith}
 use lib.Dec.{eqb}
 use lib.ListN.{getD}
 use borrow.Author.Tests.{ne-eqb}
-use Rattle.reasons.specs.Reasons.{Part, Byte, Name, Place, Value, partOf, taken}
+use Rattle.reasons.specs.Reasons.{Byte, Name, Place, partOf, taken}
 
 -- a byte that is no mark
 pub part-byte : (b : ℕ) → (b ≡ 64 → ⊥) → (b ≡ 37 → ⊥) → (b ≡ 35 → ⊥) → partOf b ≡ Byte b

@@ -1,19 +1,17 @@
 -- The bytes and the length of a phrase with its gaps filled. Assumes nothing.
-use mathlib.Core.Path.{_≡_, refl, ap, sym, _∙_}
-use mathlib.Core.Bool.{Bool, true, false, _&&_, _||_, and-assoc, and-eq-true-iff, false≢true}
+use mathlib.Core.Path.{_≡_, refl}
+use mathlib.Core.Bool.{Bool, true, false, _&&_, _||_, and-eq-true-iff}
 use mathlib.Core.List.{List, [], _∷_, _++_}
-use Prim.Native.Nat.{ℕ, zero, suc, _+_, _^_, _≤_, _<_}
+use Prim.Native.Nat.{ℕ, _+_, _^_, _≤_, _<_}
 use native.Mathlib.Omega.{arith}
 use lib.Dec.{leb}
 use lib.ListN.{length, length-append, getD, drop}
 use lib.Seq.{getD-drop}
 use borrow.Author.Tests.{leb-true, le-leb}
-use Rattle.decimal.specs.Ascii.{ascii}
 use Rattle.decimal.specs.Number.{digit}
 use Rattle.decimal.specs.Decimal.{decimal}
 use Rattle.decimal.proofs.Writing.{at-most-twenty}
-use Rattle.settings.specs.Columns.{table, columnAt}
-use Rattle.reasons.specs.Reasons.{named, columnName, Part, Byte, Name, Place, Value, partText, taken, filled}
+use Rattle.reasons.specs.Reasons.{columnName, Part, Byte, Name, Place, Value, partText, taken, filled}
 use Rattle.reasons.specs.Reading.{wordByte}
 use Rattle.reasons.specs.Laws.{printable}
 use Rattle.reasons.specs.Inner.{most}

@@ -20,7 +20,7 @@ use Rattle.reasons.specs.declared.Match.the-variants.{At, Nowhere}
 use Rattle.reasons.specs.declared.Reading.the-variants.{Reason, NoReason}
 use Rattle.reasons.specs.Reasons.{named, columnName, ruleOf, phraseOf, valuesAtOdds, valuesOf, Part, partOf, partText, taken, filled, reason}
 use Rattle.reasons.specs.Reading.{wordByte, matched, sorts, readAs, readFrom}
-use Rattle.reasons.specs.Inner.{sortAt, conflictSort, sortOf, twoValues, phraseAt, wording, most}
+use Rattle.reasons.specs.Inner.{sortAt, conflictSort, sortOf, twoValues, phraseAt, most}
 use Rattle.reasons.proofs.Printing.{prints}
 use Rattle.reasons.proofs.Gaps.{endsGap, ended, sound}
 use Rattle.reasons.proofs.PhrasesApart.{code, isByte, apart, stood, placed}

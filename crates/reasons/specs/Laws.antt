@@ -1,5 +1,5 @@
 -- What holds of reasons, for the layers above. Assumes nothing: these are statements; proofs/LawsHold proves them.
-use Prim.Native.Nat.{ℕ, _^_, _≤_, _<_}
+use Prim.Native.Nat.{ℕ, _^_, _<_}
 use mathlib.Core.Path.{_≡_}
 use mathlib.Core.Bool.{Bool, true, _&&_}
 use mathlib.Core.List.{List, [], _∷_}

@@ -1,6 +1,6 @@
 -- Number and place of a line (document 02, E1: "From the line number and place can be had again"). Assumes nothing: these are definitions.
 use Prim.Native.Nat.{ℕ, zero, suc, _^_, min}
-use mathlib.Core.Bool.{Bool, true, false, not, cond, _&&_, _||_}
+use mathlib.Core.Bool.{Bool, not, cond, _&&_, _||_}
 use mathlib.Core.List.{List, [], _∷_, map}
 use lib.Dec.{ltb, leb}
 use lib.ListN.{length, take, drop}

@@ -1,13 +1,11 @@
 -- `reasons::put_reason` meets its contract. Assumes nothing.
-use mathlib.Core.Path.{_≡_, refl, ap, sym, _∙_}
-use mathlib.Core.List.{[], _∷_}
+use mathlib.Core.Path.{_≡_, ap, sym, _∙_}
 use native.Mathlib.Omega.{arith}
-use lib.ListN.{length, take, replicate, getD}
+use lib.ListN.{length, take, replicate}
 use lib.Seq.{length-take-le}
 use Rattle.buffer.proofs.Putting.{put-front}
 use Rattle.reasons.specs.declared.phrases.Wording.{Wording}
-use Rattle.reasons.specs.Reasons.{phraseOf}
-use Rattle.reasons.specs.Inner.{sortOf, wording, phraseAt}
+use Rattle.reasons.specs.Inner.{wording, phraseAt}
 use Rattle.reasons.proofs.Sorts.{sort-inside, phrase-of-sort, line-filled, line-short}
 use borrow.Author.Needs.{needs}
 use Rattle.reasons.proofs.put_reason.Statement.{statement}

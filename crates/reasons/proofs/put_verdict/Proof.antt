@@ -1,5 +1,5 @@
 -- `reasons::put_verdict` meets its contract. Assumes nothing.
-use mathlib.Core.Path.{_≡_, refl}
+use mathlib.Core.Path.{_≡_}
 use native.Mathlib.Omega.{arith}
 use Rattle.decimal.specs.Ascii.{ascii}
 use Rattle.reasons.specs.Reasons.{spoken}

@@ -1,9 +1,8 @@
 -- `reasons::read_reason` meets its contract. Assumes nothing.
-use mathlib.Core.Path.{_≡_, refl, ap, sym, _∙_}
+use mathlib.Core.Path.{_≡_, refl, sym, _∙_}
 use Prim.Native.Nat.{_-_, _≤_}
 use native.Mathlib.Omega.{arith}
 use lib.ListN.{drop}
-use Rattle.reasons.specs.declared.Reading.the-variants.{Reason}
 use Rattle.reasons.specs.Reading.{sorts, readFrom, readReason}
 use Rattle.reasons.proofs.Sorts.{sort-found, sort-later, sort-none}
 use borrow.Author.Needs.{needs}

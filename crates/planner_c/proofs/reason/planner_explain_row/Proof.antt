@@ -1,16 +1,13 @@
 -- `planner_c::reason::planner_explain_row` meets its contract. Assumes nothing.
-use mathlib.Core.Path.{_≡_, refl, ap, sym, _∙_}
-use mathlib.Core.List.{List}
-use Prim.Native.Nat.{ℕ}
+use mathlib.Core.Path.{ap, sym, _∙_}
 use native.Mathlib.Omega.{arith}
-use lib.ListN.{length, take, replicate}
+use lib.ListN.{replicate}
 use lib.Seq.{length-take-le}
 use Rattle.buffer.proofs.Putting.{put-front}
 use Rattle.planner.specs.declared.Plan.{Plan}
 use Rattle.answers.specs.Outcomes.{namedOutcome}
 use Rattle.reasons.specs.Reasons.{spoken}
-use Rattle.planner_c.specs.Entries.{told}
-use Rattle.planner_c.specs.Reasons.{lineLeft, rowLine, explainRow}
+use Rattle.planner_c.specs.Reasons.{rowLine, explainRow}
 use Rattle.planner_c.proofs.Leaving.{plan-told}
 use Rattle.planner_c.proofs.ReasonLines.{line-again}
 use borrow.Author.Needs.{needs}

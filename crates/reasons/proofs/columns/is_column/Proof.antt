@@ -1,7 +1,7 @@
 -- `reasons::columns::is_column` meets its contract. Assumes nothing.
-use mathlib.Core.Path.{_≡_, sym}
+use mathlib.Core.Path.{sym}
 use native.Mathlib.Omega.{arith}
-use lib.ListN.{length, take, replicate}
+use lib.ListN.{replicate}
 use lib.Seq.{length-take-le}
 use Rattle.buffer.proofs.Putting.{put-front}
 use Rattle.lines.proofs.Sameness.{same-decided}

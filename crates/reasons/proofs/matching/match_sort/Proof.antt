@@ -1,12 +1,9 @@
 -- `reasons::matching::match_sort` meets its contract. Assumes nothing.
 use mathlib.Core.Path.{refl, sym, _∙_}
 use native.Mathlib.Omega.{arith}
-use lib.ListN.{length, take, replicate}
+use lib.ListN.{replicate}
 use lib.Seq.{length-take-le}
 use Rattle.buffer.proofs.Putting.{put-front}
-use Rattle.reasons.specs.declared.Match.the-variants.{At}
-use Rattle.reasons.specs.Reasons.{partOf}
-use Rattle.reasons.specs.Reading.{matched}
 use Rattle.reasons.specs.Inner.{phraseAt}
 use borrow.Author.Needs.{needs}
 use Rattle.reasons.proofs.matching.match_sort.Statement.{statement}

@@ -1,6 +1,6 @@
 -- `reasons::phrases::wording_of` meets its contract. Assumes nothing.
-use Rattle.reasons.specs.Reasons.{valuesAtOdds, valuesOf}
-use Rattle.reasons.specs.Inner.{conflictSort, sortOf, wording}
+use Rattle.reasons.specs.Reasons.{valuesOf}
+use Rattle.reasons.specs.Inner.{sortOf, wording}
 use borrow.Author.Needs.{needs}
 use Rattle.reasons.proofs.phrases.wording_of.Statement.{statement}
 use Rattle.reasons.proofs.phrases.wording_of.Tie as tie
