@@ -50,7 +50,7 @@
  *     A reason is one line of printable ASCII without a line end, as
  *
  *         The value of BURST is outside its range: it is 0.
- *         The slots used at depth 0 are more than can be reserved: 10 used and 8 reservable.
+ *         The slots used at depth 0 are more than can be reserved: 10 used and 7 reservable.
  *
  *     with the column's name or the depth, and the values that were compared. Number and place can be had again from it
  *     (planner_read_reason). Reasons of 1 to 7 come from planner_explain_row. Number 8 of planner_plan_row concerns no value of the row:

@@ -1,6 +1,6 @@
 /*
  * harness.c: calls the planner from C and checks what each call answers and leaves against planner.h, document 01 and
- * request E1 of document 02 (a refusal as one English line).
+ * requests E1 (a refusal as one English line) and E2 (the beacon takes its time too) of document 02.
  *
  *     harness ROWS.TXT SEED CALLS
  *
@@ -446,11 +446,21 @@ static int write_routers(char *line, size_t size, const unsigned *v)
                     routers, 1u << (v[0] - v[1]));
 }
 
+/*
+ * Request E2: the slots that a router at this depth may reserve, which are those that its contention period leaves. As
+ * number 5 comes before 7, it has at most 7 reservations, and that period has at most 9 of the 16 slots.
+ */
+static unsigned reservable(uint32_t depth, const unsigned *v)
+{
+    unsigned slot = 60u << v[1], reservations = v[4] + (depth < v[2] ? v[3] : 0);
+    unsigned beacon = reservations == 0 ? 38 : 40 + 6 * reservations;
+    return 16 - (440 + beacon + slot - 1) / slot;
+}
+
 /* The slots used are not counted here: the figure is taken from the line that was found, and must be too large. */
 static int write_slots(char *line, size_t size, uint32_t depth, const unsigned *v, struct slice found)
 {
-    static const unsigned reservable[4] = {8, 12, 14, 15};
-    unsigned most = reservable[v[1] < 3 ? v[1] : 3];
+    unsigned most = reservable(depth, v);
     uint64_t used = 0;
     size_t at = 0;
     while (at < found.length && found.at[at] != ':')

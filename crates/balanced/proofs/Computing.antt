@@ -1,6 +1,6 @@
 -- To unfold `plans` is to unfold all that a plan is computed with. Assumes nothing.
 use Rattle.measure.specs.Measures.{roundedUp, burst, arrivals, wholeFrames, serviceTime}
-use Rattle.superframe.specs.Orders.{beaconInterval, slot, contention, reservable}
+use Rattle.superframe.specs.Orders.{beaconInterval, slot, beaconLength, contention, reservable}
 use Rattle.superframe.specs.Exchange.{airTime, acknowledgement, spacing, exchange}
 use Rattle.superframe.specs.Reservation.{framesIn, rate, slotsFor, latency}
 use Rattle.links.specs.Link.{slotsOf, framesOf, latencyOf, reservationOf, afterLink, after, buffer, delay, figuresBy, figuresOf}
@@ -8,12 +8,12 @@ use Rattle.network.specs.Counting.{total, join}
 use Rattle.refusals.specs.Conditions.{firstBroken}
 use Rattle.settings.specs.Columns.{table}
 use Rattle.settings.specs.Checks.{valuesOf, ranged, atOdds, checks}
-use Rattle.balanced.specs.Times.{timingOf, reservableOf}
+use Rattle.balanced.specs.Times.{timingOf, routersBelow, reservationsAt, reservableAt}
 use Rattle.balanced.specs.Loads.{sensor, left, near, above, upward, downward, sinkAt, atSink}
 use Rattle.balanced.specs.Checks.{reservations, routers, superframes, routersFit, slotsNeeded, usedBelow, usedOffPath, usedOnPath, hasOffPath, hasOnPath, offPathAt, onPathAt, usedAt, usedFrom, conditions}
 use Rattle.balanced.specs.Lines.{linkFor, endLink, upLink, downLink, totalDelay, sinkFigures, letter, endLines, upLines, downLines, lines, sameKind, figuresAt}
 use Rattle.balanced.specs.Outcome.{outcomeOf}
 
 unfoldable pub plans : Type 0
-unfolding roundedUp burst arrivals wholeFrames serviceTime beaconInterval slot contention reservable airTime acknowledgement spacing exchange framesIn rate slotsFor latency slotsOf framesOf latencyOf reservationOf afterLink after buffer delay figuresBy figuresOf total join firstBroken table valuesOf ranged atOdds checks timingOf reservableOf sensor left near above upward downward sinkAt atSink reservations routers superframes routersFit slotsNeeded usedBelow usedOffPath usedOnPath hasOffPath hasOnPath offPathAt onPathAt usedAt usedFrom conditions linkFor endLink upLink downLink totalDelay sinkFigures letter endLines upLines downLines lines outcomeOf sameKind Rattle.balanced.specs.Lines.none figuresAt
+unfolding roundedUp burst arrivals wholeFrames serviceTime beaconInterval slot beaconLength contention reservable airTime acknowledgement spacing exchange framesIn rate slotsFor latency slotsOf framesOf latencyOf reservationOf afterLink after buffer delay figuresBy figuresOf total join firstBroken table valuesOf ranged atOdds checks timingOf routersBelow reservationsAt reservableAt sensor left near above upward downward sinkAt atSink reservations routers superframes routersFit slotsNeeded usedBelow usedOffPath usedOnPath hasOffPath hasOnPath offPathAt onPathAt usedAt usedFrom conditions linkFor endLink upLink downLink totalDelay sinkFigures letter endLines upLines downLines lines outcomeOf sameKind Rattle.balanced.specs.Lines.none figuresAt
 plans = Unit

@@ -15,7 +15,7 @@ use Rattle.settings.specs.declared.Settings.{Settings}
 use Rattle.settings.specs.Checks.{checks}
 use Rattle.settings.specs.Laws.{Checked}
 use Rattle.settings.proofs.LawsHold.{unbroken-where-checked}
-use Rattle.balanced.specs.Times.{reservableOf}
+use Rattle.balanced.specs.Times.{reservableAt}
 use Rattle.balanced.specs.Checks.{reservations, routers, superframes, routersFit, usedOffPath, usedOnPath, hasOffPath, hasOnPath, offPathAt, onPathAt, usedAt, usedFrom, conditions}
 use Rattle.balanced.specs.Bounds.{Sound}
 use Rattle.balanced.specs.Laws.{Plannable}
@@ -99,10 +99,10 @@ module _ (s : Settings) where
       (le-ltb (superframes s) (routers s) (P .routers), tt))
       (held-all (suc (s .h)) 0 (λ j h. (off j (omega arith), (on j, tt))))
     where
-      off : (j : ℕ) → j ≤ s .h → (hasOffPath s j && ltb (reservableOf s .0) (usedOffPath s j .0)) ≡ false
+      off : (j : ℕ) → j ≤ s .h → (hasOffPath s j && ltb (reservableAt s j .0) (usedOffPath s j .0)) ≡ false
       off j h = kept (hasOffPath s j) _ _ (λ t. P .offPath j h (root-is-sink j t))
 
-      on : (j : ℕ) → (hasOnPath s j && ltb (reservableOf s .0) (usedOnPath s j .0)) ≡ false
+      on : (j : ℕ) → (hasOnPath s j && ltb (reservableAt s j .0) (usedOnPath s j .0)) ≡ false
       on j = kept (hasOnPath s j) _ _ (λ t. P .onPath j (ltb-true j (s .sink) t))
 
   -- numbers 3 to 6 leave at most 2^14 routers

@@ -11,6 +11,7 @@ use Rattle.settings.specs.declared.Settings.{Settings}
 use Rattle.settings.specs.Laws.{Checked}
 use Rattle.balanced.specs.declared.Kind.the-variants.{Sink}
 use Rattle.balanced.specs.declared.Line.{Line}
+use Rattle.balanced.specs.Times.{routersBelow}
 use Rattle.balanced.specs.Loads.{sensor}
 use Rattle.balanced.specs.Checks.{routers, superframes, slotsNeeded, usedBelow, usedOffPath}
 use Rattle.balanced.specs.Lines.{line, upLink, downLink, totalDelay, sinkFigures, endLines, upLines, downLines, lines}
@@ -37,7 +38,7 @@ module _ (s : Settings) (C : Checked s) (flat : s .h ≡ 0) (bare : s .ne ≡ 0)
   some-superframe = pow-pos (s .bo - s .so)
 
   no-slots : (i : ℕ) → usedOffPath s i .0 ≡ 0
-  unfolding usedOffPath usedBelow
+  unfolding usedOffPath usedBelow routersBelow
   no-slots i = rw (le-ltb i (s .h) (omega arith)) (omega (arith, ap (λ (n : ℕ). n * slotsNeeded s (sensor s .rate)) bare))
 
   lone-plannable : Plannable s

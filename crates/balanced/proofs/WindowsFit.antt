@@ -10,7 +10,7 @@ use Rattle.measure.specs.declared.Rate.{Rate}
 use Rattle.superframe.proofs.OrderLaws.{window-fits}
 use Rattle.links.specs.Link.{slotsOf}
 use Rattle.settings.specs.declared.Settings.{Settings}
-use Rattle.balanced.specs.Times.{timingOf, reservableOf}
+use Rattle.balanced.specs.Times.{timingOf, routersBelow, reservationsAt, reservableAt}
 use Rattle.balanced.specs.Loads.{sensor, upward, downward}
 use Rattle.balanced.specs.Checks.{slotsNeeded, usedBelow, usedOffPath, usedOnPath}
 use Rattle.balanced.specs.Lines.{lines}
@@ -24,47 +24,50 @@ one-of n k m h l = omega (arith, mul-le-mul-right k h)
 
 module _ (s : Settings) (P : Plannable s) where
   -- what a router off the sink's path uses of its superframe, and what one on it uses
-  below-used : (i : ℕ) → i ≤ s .h → (i ≡ 0 → s .sink ≡ 0) → s .ne * slotsNeeded s (sensor s .rate) ≤ reservableOf s .0
-  unfolding usedOffPath usedBelow
+  below-used : (i : ℕ) → i ≤ s .h → (i ≡ 0 → s .sink ≡ 0) → s .ne * slotsNeeded s (sensor s .rate) ≤ reservableAt s i .0
+  unfolding usedOffPath usedBelow routersBelow
   below-used i h z = omega (arith, P .offPath i h z)
 
-  routers-used : (i : ℕ) → i < s .h → s .sink ≤ i → s .nr * slotsNeeded s (upward s (suc i) .rate) ≤ reservableOf s .0
-  unfolding usedOffPath usedBelow
+  routers-used : (i : ℕ) → i < s .h → s .sink ≤ i → s .nr * slotsNeeded s (upward s (suc i) .rate) ≤ reservableAt s i .0
+  unfolding usedOffPath usedBelow routersBelow
   routers-used i h l = omega (arith, rw (lt-ltb i (s .h) h) at (P .offPath i (omega arith) (λ e. omega arith)))
 
   path-used : (i : ℕ) → i < s .sink
-      → s .ne * slotsNeeded s (sensor s .rate) + (s .nr - 1) * slotsNeeded s (upward s (suc i) .rate) + slotsNeeded s (downward s i .rate) ≤ reservableOf s .0
+      → s .ne * slotsNeeded s (sensor s .rate) + (s .nr - 1) * slotsNeeded s (upward s (suc i) .rate) + slotsNeeded s (downward s i .rate) ≤ reservableAt s i .0
   unfolding usedOnPath usedBelow
   path-used i h = P .onPath i h
 
   -- so none of the reservations takes more slots than may be reserved
-  end-slots : 0 < s .ne → slotsNeeded s (sensor s .rate) ≤ reservableOf s .0
+  end-slots : 0 < s .ne → slotsNeeded s (sensor s .rate) ≤ reservableAt s 0 .0
   end-slots n = by (decLe 1 (s .sink))
     where
-      by : Dec (0 < s .sink) → slotsNeeded s (sensor s .rate) ≤ reservableOf s .0
+      by : Dec (0 < s .sink) → slotsNeeded s (sensor s .rate) ≤ reservableAt s 0 .0
       by (yes h) = one-of (s .ne) _ _ n (omega (arith, path-used 0 h))
       by (no h) = one-of (s .ne) _ _ n (below-used 0 (omega arith) (λ e. omega arith))
 
-  up-slots : (i : ℕ) → i < s .h → slotsNeeded s (upward s (suc i) .rate) ≤ reservableOf s .0
+  up-slots : (i : ℕ) → i < s .h → slotsNeeded s (upward s (suc i) .rate) ≤ reservableAt s i .0
   up-slots i h = by (decLe (suc i) (s .sink))
     where
-      by : Dec (i < s .sink) → slotsNeeded s (upward s (suc i) .rate) ≤ reservableOf s .0
+      by : Dec (i < s .sink) → slotsNeeded s (upward s (suc i) .rate) ≤ reservableAt s i .0
       by (yes l) = one-of (s .nr - 1) _ _ (omega (arith, P .checked .sinkBranches (omega arith))) (omega (arith, path-used i l))
       by (no l) = one-of (s .nr) _ _ (P .checked .children (omega arith)) (routers-used i h (omega arith))
 
-  down-slots : (i : ℕ) → i < s .sink → slotsNeeded s (downward s i .rate) ≤ reservableOf s .0
+  down-slots : (i : ℕ) → i < s .sink → slotsNeeded s (downward s i .rate) ≤ reservableAt s i .0
   down-slots i h = omega (arith, path-used i h)
 
   -- and every window that starts with the interval fits it
-  fits : (ρ : Rate) → slotsNeeded s ρ ≤ reservableOf s .0 → 0 + slotsOf (timingOf s) ρ .0 * timingOf s .slot .0 ≤ timingOf s .interval .0
-  unfolding slotsNeeded timingOf reservableOf
-  fits ρ h = omega (arith, window-fits (s .so) (s .bo) (slotsOf (timingOf s) ρ) (P .checked .orders) h)
+  abbrev Fits : Rate → Type 0
+  Fits ρ = 0 + slotsOf (timingOf s) ρ .0 * timingOf s .slot .0 ≤ timingOf s .interval .0
+
+  fits : (ρ : Rate) (i : ℕ) → slotsNeeded s ρ ≤ reservableAt s i .0 → Fits ρ
+  unfolding slotsNeeded timingOf reservableAt
+  fits ρ i h = omega (arith, window-fits (s .so) (s .bo) (reservationsAt s i) (slotsOf (timingOf s) ρ) (P .checked .orders) h)
 
   pub windows-fit : (T : Tree) → Within s T → Windows s (lines s) T (λ v. 0)
   unfolding linkLoad
-  windows-fit T W v hv ns = rw (line-slots s T W v hv ns) (fits (linkLoad s T v .rate) (by (sort s T W v hv ns)))
+  windows-fit T W v hv ns = rw (line-slots s T W v hv ns) (by (sort s T W v hv ns))
     where
-      by : Sort s T v → slotsNeeded s (linkLoad s T v .rate) ≤ reservableOf s .0
-      by (endNode x n) = rw x (end-slots n)
-      by (upRouter x e i d h) = rw (x, e, d) (up-slots i h)
-      by (downRouter x e h) = rw (x, e) (down-slots (T .depth v) h)
+      by : Sort s T v → Fits (linkLoad s T v .rate)
+      by (endNode x n) = rw x (fits (sensor s .rate) 0 (end-slots n))
+      by (upRouter x e i d h) = rw (x, e, d) (fits (upward s (suc i) .rate) i (up-slots i h))
+      by (downRouter x e h) = rw (x, e) (fits (downward s (T .depth v) .rate) (T .depth v) (down-slots (T .depth v) h))

@@ -19,7 +19,7 @@ use Rattle.balanced.specs.Checks.{routers}
 use Rattle.balanced.specs.Lines.{lines}
 use Rattle.balanced.specs.Tree.{isChild, childRouters, endNodes, Within, ancestor, sinkBelow, towards, lineOf, networkOf, Windows, Sensor, Readings}
 use Rattle.balanced.specs.Promise.{sinkLine}
-use Rattle.balanced.specs.Witness.{settings, columns, lengthsAt, row, tree, offsets, network, readings, Witnessed, smallRow, smallTree, smallNetwork, fullReadings, Filled, deepRow, fullSlots, tightRow, OnThePath, allSlots, allSuperframes, JustMet}
+use Rattle.balanced.specs.Witness.{settings, columns, lengthsAt, row, tree, offsets, network, readings, Witnessed, smallRow, smallTree, smallNetwork, fullReadings, Filled, deepRow, fullSlots, tightRow, OnThePath, allSlots, allSuperframes, JustMet, longBeacon, ownBeacons, OwnCounts}
 use Rattle.balanced.proofs.Computing.{plans}
 use Rattle.balanced.proofs.LawsHold.{every-plan-keeps}
 use Rattle.balanced.proofs.Stretches.{stretch, stretch-le, apart}
@@ -28,7 +28,7 @@ use Rattle.balanced.proofs.Stretches.{stretch, stretch-le, apart}
 
 -- to unfold `rows` is to unfold all that a witness's plan is computed with, and to unfold `runs` all that its run is
 rows : Type 0
-unfolding plans settings columns row smallRow deepRow fullSlots tightRow allSlots allSuperframes
+unfolding plans settings columns row smallRow deepRow fullSlots tightRow allSlots allSuperframes longBeacon ownBeacons
 rows = Unit
 
 runs : Type 0
@@ -213,3 +213,9 @@ on-the-path = record { deep = refl; used = refl; planned = refl; tight = refl; r
 pub just-met : JustMet
 unfolding rows
 just-met = record { used = refl; planned = refl; counted = refl; plannedToo = refl }
+
+-- ---- a beacon for each router's own reservations
+
+pub own-counts : OwnCounts
+unfolding rows
+own-counts = record { used = refl; refused = refl; apart = refl; refusedToo = refl }

@@ -1,6 +1,6 @@
 -- Numbers 5 to 7 of document 01's table of conditions, and all conditions on settings in their order. Assumes nothing: these are definitions.
 use Prim.Native.Nat.{ℕ, zero, suc, _+_, _-_, _*_, _^_}
-use mathlib.Core.Bool.{Bool, cond, not, _&&_}
+use mathlib.Core.Bool.{Bool, not, _&&_}
 use mathlib.Core.List.{List, [], _∷_, _++_}
 use lib.Dec.{eqb, ltb}
 use Rattle.refusals.specs.declared.Refusal.{Refusal}
@@ -13,7 +13,7 @@ use Rattle.network.specs.Counting.{total}
 use Rattle.links.specs.Link.{slotsOf}
 use Rattle.settings.specs.declared.Settings.{Settings}
 use Rattle.settings.specs.Checks.{checks}
-use Rattle.balanced.specs.Times.{timingOf, reservableOf}
+use Rattle.balanced.specs.Times.{timingOf, routersBelow, reservableAt}
 use Rattle.balanced.specs.Loads.{sensor, upward, downward}
 
 -- ---- number 5
@@ -48,7 +48,7 @@ usedBelow s n i = s .ne * slotsNeeded s (sensor s .rate) + n * slotsNeeded s (up
 
 -- "Slots used at depth i: NE end node reservations, and at i < H also NR upward ones;"
 unfoldable pub usedOffPath : Settings → ℕ → Slots
-usedOffPath s i = slots (usedBelow s (cond (ltb i (s .h)) (s .nr) 0) i)
+usedOffPath s i = slots (usedBelow s (routersBelow s i) i)
 
 -- "on the sink's path (i < SINK) one of those NR is replaced by the downward one."
 unfoldable pub usedOnPath : Settings → ℕ → Slots
@@ -62,12 +62,12 @@ hasOffPath s i = not (eqb i 0 && ltb 0 (s .sink))
 unfoldable pub hasOnPath : Settings → ℕ → Bool
 hasOnPath s i = ltb i (s .sink)
 
--- "slots used exceed L" at depth i, for each sort of router
+-- "slots used exceed L" at depth i, its own L, for each sort of router
 unfoldable pub offPathAt : Settings → ℕ → Condition Refusal
-offPathAt s i = condition (hasOffPath s i && ltb (reservableOf s .0) (usedOffPath s i .0)) (SlotsUsed i (usedOffPath s i) (reservableOf s))
+offPathAt s i = condition (hasOffPath s i && ltb (reservableAt s i .0) (usedOffPath s i .0)) (SlotsUsed i (usedOffPath s i) (reservableAt s i))
 
 unfoldable pub onPathAt : Settings → ℕ → Condition Refusal
-onPathAt s i = condition (hasOnPath s i && ltb (reservableOf s .0) (usedOnPath s i .0)) (SlotsUsed i (usedOnPath s i) (reservableOf s))
+onPathAt s i = condition (hasOnPath s i && ltb (reservableAt s i .0) (usedOnPath s i .0)) (SlotsUsed i (usedOnPath s i) (reservableAt s i))
 
 -- "both are checked"
 unfoldable pub usedAt : Settings → ℕ → List (Condition Refusal)

@@ -10,7 +10,7 @@ use Rattle.settings.specs.declared.Settings.{Settings}
 use Rattle.settings.specs.Laws.{Checked}
 use Rattle.balanced.specs.declared.Kind.the-variants.{Sink}
 use Rattle.balanced.specs.declared.Line.{Line}
-use Rattle.balanced.specs.Times.{timingOf, reservableOf}
+use Rattle.balanced.specs.Times.{timingOf, reservableAt}
 use Rattle.balanced.specs.Loads.{upward, downward, atSink}
 use Rattle.balanced.specs.Checks.{routers, superframes, usedOffPath, usedOnPath}
 use Rattle.balanced.specs.Lines.{line, sinkFigures, lines, sameKind}
@@ -29,9 +29,9 @@ pub record Plannable (s : Settings) : Type 0 where
   pub reservations : s .ne + s .nr ≤ 7
   -- number 6: each router's superframe fits the interval beside the others
   pub routers : routers s ≤ superframes s
-  -- number 7: at each depth the slots used are reservable; the root is off the sink's path only where it is the sink
-  pub offPath : (i : ℕ) → i ≤ s .h → (i ≡ 0 → s .sink ≡ 0) → usedOffPath s i .0 ≤ reservableOf s .0
-  pub onPath : (i : ℕ) → i < s .sink → usedOnPath s i .0 ≤ reservableOf s .0
+  -- number 7: at each depth the slots used may be reserved there; the root is off the sink's path only where it is the sink
+  pub offPath : (i : ℕ) → i ≤ s .h → (i ≡ 0 → s .sink ≡ 0) → usedOffPath s i .0 ≤ reservableAt s i .0
+  pub onPath : (i : ℕ) → i < s .sink → usedOnPath s i .0 ≤ reservableAt s i .0
 
 -- "A row is planned exactly when all listed conditions hold", and then with the lines of document 01's recurrences
 abbrev pub PlannedExactly : Type 0

@@ -1,6 +1,8 @@
--- The times that a row sets (document 01, 'Time on the air'). Assumes nothing: these are definitions.
-use Prim.Native.Nat.{_+_}
-use lib.Dec.{eqb}
+-- The times that a row sets (document 01, 'Time on the air'), and the slots that its routers may reserve (document 02, E2). Assumes nothing:
+-- these are definitions.
+use Prim.Native.Nat.{ℕ, _+_}
+use mathlib.Core.Bool.{cond}
+use lib.Dec.{eqb, ltb}
 use Rattle.measure.specs.declared.Slots.{Slots}
 use Rattle.superframe.specs.Orders.{beaconInterval, slot, reservable}
 use Rattle.superframe.specs.Exchange.{exchange}
@@ -15,6 +17,15 @@ timingOf s = record {
   exchange = exchange (s .head + s .payload) (eqb (s .ack) 1);
 }
 
--- L: the slots that may be reserved
-unfoldable pub reservableOf : Settings → Slots
-reservableOf s = reservable (s .so)
+-- "at most NR child routers, none at depth H": as many as the checks count for a router at depth i
+unfoldable pub routersBelow : Settings → ℕ → ℕ
+routersBelow s i = cond (ltb i (s .h)) (s .nr) 0
+
+-- g of a router at depth i: a reservation for each end node and each child router. On the sink's path too, where one of the child
+-- routers' is replaced by the downward one
+unfoldable pub reservationsAt : Settings → ℕ → ℕ
+reservationsAt s i = s .ne + routersBelow s i
+
+-- L of a router at depth i: "check 7 uses each router's own"
+unfoldable pub reservableAt : Settings → ℕ → Slots
+reservableAt s i = reservable (s .so) (reservationsAt s i)

@@ -14,7 +14,7 @@ use Rattle.measure.specs.Measures.{slots}
 use Rattle.refusals.specs.declared.Refusal.the-variants.{SlotsUsed}
 use Rattle.settings.specs.declared.Settings.{Settings}
 use Rattle.balanced.specs.declared.Line.{Line}
-use Rattle.balanced.specs.Times.{timingOf, reservableOf}
+use Rattle.balanced.specs.Times.{timingOf, reservableAt}
 use Rattle.balanced.specs.Checks.{routers, superframes, usedOffPath, usedOnPath}
 use Rattle.balanced.specs.Lines.{letter, lines}
 use Rattle.balanced.specs.Outcome.{Planned, Refused, outcomeOf}
@@ -149,13 +149,13 @@ pub record Filled : Type 0 where
 unfoldable pub deepRow : Settings
 deepRow = settings 8 4 2 2 1 0 2 1 1 19 7 0
 
--- `2 0 1 2 2 0 1 1 1 17 1 0`: S = X = 60, so a link takes as many slots as its rate
+-- `2 0 1 2 1 1 1 1 1 17 1 0`: S = X = 60, so a link takes as many slots as its rate
 unfoldable pub fullSlots : Settings
-fullSlots = settings 2 0 1 2 2 0 1 1 1 17 1 0
+fullSlots = settings 2 0 1 2 1 1 1 1 1 17 1 0
 
--- `4 1 2 2 3 0 2 1 1 5 7 0`: S = 120, X = 48
+-- `4 1 2 2 2 1 2 1 1 5 7 0`: S = 120, X = 48
 unfoldable pub tightRow : Settings
-tightRow = settings 4 1 2 2 3 0 2 1 1 5 7 0
+tightRow = settings 4 1 2 2 2 1 2 1 1 5 7 0
 
 pub record OnThePath : Type 0 where
   -- the lines of a sink two depths below the root; RATE of line D 1 is 1 of the end node, 1 of the other child router and 4 of the root
@@ -167,28 +167,46 @@ pub record OnThePath : Type 0 where
       ∷ (68 ∷ 1 ∷ 6 ∷ 5395072 ∷ 1 ∷ 9 ∷ 245032 ∷ 28 ∷ 844485 ∷ [])
       ∷ (83 ∷ 2 ∷ 7 ∷ 7356056 ∷ 0 ∷ 0 ∷ 0 ∷ 30 ∷ 2478761 ∷ [])
       ∷ []
-  -- All 8 reservable slots of a root are used: its two end nodes take 1 each, the one of its child routers that sends upward 2, and its
-  -- own downward link 4. The row is planned.
-  pub used : usedOnPath fullSlots 0 .0 ∷ reservableOf fullSlots .0 ∷ [] ≡ 8 ∷ 8 ∷ []
+  -- All 7 reservable slots of a root are used: its end node takes 1, the one of its child routers that sends upward 2, and its own
+  -- downward link 4. The row is planned.
+  pub used : usedOnPath fullSlots 0 .0 ∷ reservableAt fullSlots 0 .0 ∷ [] ≡ 7 ∷ 7 ∷ []
   pub planned : outcomeOf fullSlots ≡ Planned (lines fullSlots)
-  -- The root has slots enough, 12 of 12, and the router below it on the path has not, 13 of 12: refusal 7, place 1.
-  pub tight : usedOnPath tightRow 0 .0 ∷ usedOnPath tightRow 1 .0 ∷ reservableOf tightRow .0 ∷ [] ≡ 12 ∷ 13 ∷ 12 ∷ []
-  pub refused : outcomeOf tightRow ≡ Refused (SlotsUsed 1 (slots 13) (slots 12))
+  -- The root has slots enough, 11 of 11, and the router below it on the path has not, 12 of 11: refusal 7, place 1.
+  pub tight : usedOnPath tightRow 0 .0 ∷ usedOnPath tightRow 1 .0 ∷ reservableAt tightRow 0 .0 ∷ reservableAt tightRow 1 .0 ∷ [] ≡ 11 ∷ 12 ∷ 11 ∷ 11 ∷ []
+  pub refused : outcomeOf tightRow ≡ Refused (SlotsUsed 1 (slots 12) (slots 11))
 
 -- ---- conditions that are just met
 
--- P3: `0 0 0 0 4 0 0 1 1 19 7 0`
+-- `0 0 0 0 7 0 0 1 1 17 1 0`: a router with 7 end nodes of one slot each
 unfoldable pub allSlots : Settings
-allSlots = settings 0 0 0 0 4 0 0 1 1 19 7 0
+allSlots = settings 0 0 0 0 7 0 0 1 1 17 1 0
 
 -- P7: `5 4 1 1 1 0 0 1 1 19 7 0`
 unfoldable pub allSuperframes : Settings
 allSuperframes = settings 5 4 1 1 1 0 0 1 1 19 7 0
 
 pub record JustMet : Type 0 where
-  -- 8 slots of 8
-  pub used : usedOffPath allSlots 0 .0 ∷ reservableOf allSlots .0 ∷ [] ≡ 8 ∷ 8 ∷ []
+  -- 7 slots of 7
+  pub used : usedOffPath allSlots 0 .0 ∷ reservableAt allSlots 0 .0 ∷ [] ≡ 7 ∷ 7 ∷ []
   pub planned : outcomeOf allSlots ≡ Planned (lines allSlots)
   -- 2 routers of 2
   pub counted : routers allSuperframes ∷ superframes allSuperframes ∷ [] ≡ 2 ∷ 2 ∷ []
   pub plannedToo : outcomeOf allSuperframes ≡ Planned (lines allSuperframes)
+
+-- ---- a beacon for each router's own reservations (document 02, E2)
+
+-- P3: `0 0 0 0 4 0 0 1 1 19 7 0`
+unfoldable pub longBeacon : Settings
+longBeacon = settings 0 0 0 0 4 0 0 1 1 19 7 0
+
+-- `4 0 1 1 0 1 0 1 8 17 1 0`: the root has one reservation, its child router none
+unfoldable pub ownBeacons : Settings
+ownBeacons = settings 4 0 1 1 0 1 0 1 8 17 1 0
+
+pub record OwnCounts : Type 0 where
+  -- 8 slots of 7, where 440 symbols alone would leave 8
+  pub used : usedOffPath longBeacon 0 .0 ∷ reservableAt longBeacon 0 .0 ∷ [] ≡ 8 ∷ 7 ∷ []
+  pub refused : outcomeOf longBeacon ≡ Refused (SlotsUsed 0 (slots 8) (slots 7))
+  -- 8 slots of 7 at the root, where its child router's L is 8
+  pub apart : usedOffPath ownBeacons 0 .0 ∷ reservableAt ownBeacons 0 .0 ∷ reservableAt ownBeacons 1 .0 ∷ [] ≡ 8 ∷ 7 ∷ 8 ∷ []
+  pub refusedToo : outcomeOf ownBeacons ≡ Refused (SlotsUsed 0 (slots 8) (slots 7))

@@ -1,4 +1,4 @@
--- P1 to P10 (document 01, 'Plans and limits worked through'), from bytes to bytes, in one table: each row as it is read, and what is
+-- P1 to P10 (document 01, 'Plans and limits worked through'; document 02, E2), from bytes to bytes, in one table: each row as it is read, and what is
 -- printed for it. Assumes nothing.
 use mathlib.Core.Path.{_≡_}
 use mathlib.Core.List.{List, [], _∷_, map}
@@ -32,8 +32,9 @@ examples =
     ∷ "D 0 2 1226616 1 9 245032 7 381323"
     ∷ "S 1 3 2207472 0 0 0 9 953227"
     ∷ [])
-    ∷ planned "P3 is planned: k = 2, m = 1, T = 1064, E delay 2024" "0 0 0 0 4 0 0 1 1 19 7 0"
-    ("E 0 1 960 2 1 1064 3 2024" ∷ "S 0 4 8096 0 0 0 9 2024" ∷ [])
+    ∷ refused "P3: 8 slots of 7, refusal 7, place 0 (E2)" "0 0 0 0 4 0 0 1 1 19 7 0" "R 7 0"
+    ∷ planned "P3 with NE 3: k = 2, m = 1, T = 1064, E delay 2024" "0 0 0 0 3 0 0 1 1 19 7 0"
+    ("E 0 1 960 2 1 1064 3 2024" ∷ "S 0 3 6072 0 0 0 7 2024" ∷ [])
     ∷ refused "P4, NE 5 there: refusal 7, place 0" "0 0 0 0 5 0 0 1 1 19 7 0" "R 7 0"
     ∷ planned "P5, M = 18, SO 0, RATE 1: k = 1" "4 0 0 0 1 0 0 1 1 17 1 0"
     ("E 0 1 15360 1 1 15420 3 30780" ∷ "S 0 1 30780 0 0 0 3 30780" ∷ [])
@@ -45,6 +46,9 @@ examples =
     ∷ planned "P9, H 1, NR 4, NE 3 passes check 5" "8 4 1 4 3 0 0 1 1 19 7 0"
     ("E 0 1 245760 1 9 245032 2 272339" ∷ "U 1 3 1472376 1 9 245032 9 408630" ∷ "S 0 15 10302264 0 0 0 42 680969" ∷ [])
     ∷ refused "P10, NE 4 there: refused" "8 4 1 4 4 0 0 1 1 19 7 0" "R 5 0"
+    ∷ planned "7 slots of 7, each an end node's" "0 0 0 0 7 0 0 1 1 17 1 0"
+    ("E 0 1 960 1 1 1020 3 1980" ∷ "S 0 7 13860 0 0 0 15 1980" ∷ [])
+    ∷ refused "8 slots of 7 at the root, where its child router may reserve 8 (E2)" "4 0 1 1 0 1 0 1 8 17 1 0" "R 7 0"
     ∷ []
 
 -- what is printed for the name line and that row
@@ -63,8 +67,8 @@ pub record InputsHold : Type 0 where
   pub namesWithoutEnd : output Plans (ascii "BO SO H NR NE OWN SINK BURST RATE HEAD DATA ACK") ≡ []
   pub empty : output Plans [] ≡ ascii "R 1 0\n"
   pub noNames : output Plans (ascii "8 4 1 2 1 0 0 1 1 19 7 0\n8 4 1 2 1 0 0 1 1 19 7 0\n") ≡ ascii "R 1 0\n"
-  pub several : output Plans (ascii "BO SO H NR NE OWN SINK BURST RATE HEAD DATA ACK\n08 4 1 2 1 0 0 1 1 19 7 0\n\n0 0 0 0 4 0 0 1 1 19 7 0\n0 0 0 0 5 0 0 1 1 19 7 0")
-      ≡ ascii "R 2 1\nR 2 1\nKIND DEPTH RATE BURST SLOTS FRAMES LATENCY BUFFER DELAY\nE 0 1 960 2 1 1064 3 2024\nS 0 4 8096 0 0 0 9 2024\nR 7 0\n"
+  pub several : output Plans (ascii "BO SO H NR NE OWN SINK BURST RATE HEAD DATA ACK\n08 4 1 2 1 0 0 1 1 19 7 0\n\n0 0 0 0 3 0 0 1 1 19 7 0\n0 0 0 0 5 0 0 1 1 19 7 0")
+      ≡ ascii "R 2 1\nR 2 1\nKIND DEPTH RATE BURST SLOTS FRAMES LATENCY BUFFER DELAY\nE 0 1 960 2 1 1064 3 2024\nS 0 3 6072 0 0 0 7 2024\nR 7 0\n"
 
 -- a row that is refused with each of numbers 2 to 7, each place of 4, and one that is planned, and the line of each (document 02, E1)
 unfoldable pub reasons : List Example
@@ -83,7 +87,8 @@ reasons =
     ∷ refused "4, place 11" "8 4 1 2 1 0 0 1 1 126 2 0" "Values are at odds at DATA, which with HEAD may not be above 127: HEAD is 126 and DATA is 2."
     ∷ refused "5" "8 4 1 5 4 0 0 1 1 19 7 0" "A router would have more than 7 reservations: NE is 4 and NR is 5."
     ∷ refused "6" "5 4 1 2 1 0 0 1 1 19 7 0" "There are more routers than superframes that fit a beacon interval: 3 against 2."
-    ∷ refused "7" "0 0 0 0 5 0 0 1 1 19 7 0" "The slots used at depth 0 are more than can be reserved: 10 used and 8 reservable."
+    ∷ refused "7" "0 0 0 0 5 0 0 1 1 19 7 0" "The slots used at depth 0 are more than can be reserved: 10 used and 7 reservable."
+    ∷ refused "7, the root's own L" "4 0 1 1 0 1 0 1 8 17 1 0" "The slots used at depth 0 are more than can be reserved: 8 used and 7 reservable."
     ∷ refused "planned" "8 4 1 2 1 0 0 1 1 19 7 0" "The row is planned."
     ∷ []
 

@@ -16,7 +16,7 @@ use Rattle.refusals.specs.Conditions.{condition, firstBroken}
 use Rattle.refusals.proofs.Answering.{verdict, first-part-answers, second-part-answers}
 use Rattle.superframe.proofs.OrderLaws.{shifted}
 use Rattle.settings.specs.declared.Settings.{Settings}
-use Rattle.balanced.specs.Times.{reservableOf}
+use Rattle.balanced.specs.Times.{reservableAt}
 use Rattle.balanced.specs.Checks.{routers, superframes, routersFit, usedOffPath, usedOnPath, hasOffPath, hasOnPath, offPathAt, onPathAt, usedAt, usedFrom}
 use Rattle.balanced.proofs.LoadBounds.{full, full-one, full-more}
 
@@ -58,7 +58,7 @@ routers-in s n k en ek h = rw (sym en, sym ek) (in-limit k n (Superframes n k) h
 
 -- the routers off the sink's path are checked where a depth has them
 pub off-path-there : (s : Settings) (i : ℕ) → hasOffPath s i ≡ true
-    → verdict (condition (ltb (reservableOf s .0) (usedOffPath s i .0)) (SlotsUsed i (usedOffPath s i) (reservableOf s)) ∷ []) ≡ verdict (offPathAt s i ∷ [])
+    → verdict (condition (ltb (reservableAt s i .0) (usedOffPath s i .0)) (SlotsUsed i (usedOffPath s i) (reservableAt s i)) ∷ []) ≡ verdict (offPathAt s i ∷ [])
 unfolding offPathAt firstBroken
 off-path-there s i e = rw e
 
@@ -68,7 +68,7 @@ off-path-none s i e = rw e
 
 -- and the one on it
 pub on-path-there : (s : Settings) (i : ℕ) → i < s .sink
-    → verdict (condition (ltb (reservableOf s .0) (usedOnPath s i .0)) (SlotsUsed i (usedOnPath s i) (reservableOf s)) ∷ []) ≡ verdict (onPathAt s i ∷ [])
+    → verdict (condition (ltb (reservableAt s i .0) (usedOnPath s i .0)) (SlotsUsed i (usedOnPath s i) (reservableAt s i)) ∷ []) ≡ verdict (onPathAt s i ∷ [])
 unfolding onPathAt hasOnPath firstBroken
 on-path-there s i h = rw (lt-ltb i (s .sink) h)
 

@@ -12,7 +12,7 @@ use Rattle.links.specs.declared.Load.{Load}
 use Rattle.links.specs.Link.{slotsOf, reservationOf}
 use Rattle.links.proofs.LinkLaws.{slots-long}
 use Rattle.settings.specs.declared.Settings.{Settings}
-use Rattle.balanced.specs.Times.{timingOf}
+use Rattle.balanced.specs.Times.{timingOf, routersBelow}
 use Rattle.balanced.specs.Loads.{sensor, upward, downward}
 use Rattle.balanced.specs.Checks.{slotsNeeded, usedBelow, usedOffPath, usedOnPath}
 use Rattle.balanced.specs.Bounds.{Sound}
@@ -43,7 +43,7 @@ module _ (s : Settings) (S : Sound s) where
 
   -- NE end nodes alone
   pub ends-made : (i : ℕ) (e p : Slots) → s .h ≤ i → e ≡ linkOf (timingOf s) (sensor s) .reservation .slots → p .0 ≡ upTo64 (e .0 * s .ne) → p ≡ usedOffPath s i
-  unfolding usedOffPath usedBelow
+  unfolding usedOffPath usedBelow routersBelow
   ends-made i e p h ee ep =
       let e′ : e .0 ≡ slotsNeeded s (sensor s .rate) = ap (λ (x : Slots). x .0) ee ∙ link-slots s (sensor s) in
       let k : e .0 ≤ 2 ^ 52 = omega (arith, e′, end-low) in
@@ -53,7 +53,7 @@ module _ (s : Settings) (S : Sound s) where
   -- with NR child routers
   pub off-path-made : (i : ℕ) (e p q r : Slots) (v : Link) → i < s .h → e ≡ linkOf (timingOf s) (sensor s) .reservation .slots → v ≡ linkUp s (i + 1)
       → p .0 ≡ upTo64 (e .0 * s .ne) → q .0 ≡ upTo64 (v .reservation .slots .0 * s .nr) → r .0 ≡ upTo64 (p .0 + q .0) → r ≡ usedOffPath s i
-  unfolding usedOffPath usedBelow linkUp
+  unfolding usedOffPath usedBelow routersBelow linkUp
   off-path-made i e p q r v h ee ev ep eq er =
       let e′ : e .0 ≡ slotsNeeded s (sensor s .rate) = ap (λ (x : Slots). x .0) ee ∙ link-slots s (sensor s) in
       let v′ : v .reservation .slots .0 ≡ slotsNeeded s (upward s (suc i) .rate) = ap (λ (x : Link). x .reservation .slots .0) ev ∙ link-slots s (upward s (i + 1)) ∙ rw (add-one i) in

@@ -1,8 +1,9 @@
 -- The times of checked settings, as superframe's functions answer them. Assumes nothing.
-use mathlib.Core.Path.{_≡_, ap, _∙_}
-use Prim.Native.Nat.{ℕ, _+_, _≤_, min}
+use mathlib.Core.Path.{_≡_, _∙_}
+use Prim.Native.Nat.{ℕ, _+_, _≤_, _<_, min}
 use native.Mathlib.Omega.{arith}
 use lib.Dec.{eqb}
+use borrow.Author.Tests.{lt-ltb, le-ltb}
 use Rattle.measure.specs.declared.Symbols.{Symbols}
 use Rattle.measure.specs.declared.Slots.{Slots}
 use Rattle.superframe.specs.Orders.{beaconInterval, slot, reservable}
@@ -11,15 +12,22 @@ use Rattle.superframe.proofs.ExchangeLaws.{exchange-for-octets}
 use Rattle.links.specs.declared.Timing.{Timing}
 use Rattle.settings.specs.declared.Settings.{Settings}
 use Rattle.settings.specs.Laws.{Checked}
-use Rattle.balanced.specs.Times.{timingOf, reservableOf}
+use Rattle.balanced.specs.Times.{timingOf, routersBelow, reservationsAt, reservableAt}
 
 -- an order in its range is taken as it is
 order-is : (o : ℕ) → o ≤ 14 → min o 14 ≡ o
 order-is o h = omega arith
 
-pub reservable-made : (s : Settings) → Checked s → (l : Slots) → l ≡ reservable (min (s .so) 14) → l ≡ reservableOf s
-unfolding reservableOf
-reservable-made s h l e = e ∙ ap reservable (order-is (s .so) (h .so))
+-- L above depth H and at it
+pub reservable-above : (s : Settings) → Checked s → (i : ℕ) → i < s .h → (l : Slots) → l ≡ reservable (min (s .so) 14) (s .ne + s .nr) → l ≡ reservableAt s i
+unfolding routersBelow reservationsAt reservableAt
+reservable-above s h i k l e = e ∙ rw (order-is (s .so) (h .so), lt-ltb i (s .h) k)
+
+pub reservable-lowest : (s : Settings) → Checked s → (i : ℕ) → s .h ≤ i → (l : Slots) → l ≡ reservable (min (s .so) 14) (s .ne) → l ≡ reservableAt s i
+unfolding routersBelow reservationsAt reservableAt
+reservable-lowest s h i k l e =
+    let alone : s .ne + 0 ≡ s .ne = omega arith in
+    e ∙ rw (order-is (s .so) (h .so), le-ltb i (s .h) k, alone)
 
 pub timing-made : (s : Settings) → Checked s → (i t x : Symbols) → i ≡ beaconInterval (min (s .bo) 14) → t ≡ slot (min (s .so) 14) → x ≡ exchangeFor (s .head + s .payload) (eqb (s .ack) 1)
     → _≡_ {A = Timing} (record { interval = i; slot = t; exchange = x }) (timingOf s)

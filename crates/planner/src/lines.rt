@@ -25,7 +25,6 @@ use crate::refused_plan;
 use crate::slots::slots_fit;
 use crate::table::Link;
 use crate::table::link_at;
-use crate::timing::reservable_of;
 use crate::timing::timing_of;
 use links::Load;
 use measure::Symbols;
@@ -70,7 +69,7 @@ fn plan_links(
     ensures { λ r. ⌜ r .length ≤ 4476 ⌝ }
     ensures { λ _. ⌜ now (out .exit) ≡ sets (now (out .entry)) 0 (written (soundOutcome s)) ⌝ }
 {
-    let verdict = slots_fit(s, reservable_of(s), end.reservation.slots, up, down);
+    let verdict = slots_fit(s, end.reservation.slots, up, down);
     if let Verdict::Broken(refusal) = verdict {
         return refused_plan(refusal);
     }

@@ -7,21 +7,21 @@ ghost use Rattle.refusals.specs.declared.Refusal.the-variants.{SlotsUsed};
 ghost use Rattle.refusals.specs.Conditions.{condition, firstBroken};
 ghost use mathlib.Core.List.{[], _∷_};
 ghost use lib.Dec.{ltb};
-ghost use Rattle.balanced.specs.Times.{timingOf, reservableOf};
+ghost use Rattle.balanced.specs.Times.{timingOf, reservableAt};
 ghost use Rattle.balanced.specs.Loads.{sensor};
 ghost use Rattle.balanced.specs.Checks.{usedOffPath, usedOnPath, hasOffPath, offPathAt, usedAt, usedFrom};
 ghost use Rattle.balanced.specs.Bounds.{Sound};
 ghost use Rattle.planner.specs.Inner.{HeldFrom, HeldBelow, linkOf, linkUp, linkDown};
 use crate::table::link_at;
+use crate::timing::reservable_at;
 use measure::Slots;
 use refusals::Refusal;
 use refusals::Verdict;
 use settings::Settings;
 
-// Number 7: the first depth at which the slots used exceed L, if there is one. `end` is an end node's reservation.
-pub(crate) fn slots_fit(s: Settings, l: Slots, end: Slots, up: &[u64], down: &[u64]) -> Verdict
+// Number 7: the first depth at which the slots used exceed its L, if there is one. `end` is an end node's reservation.
+pub(crate) fn slots_fit(s: Settings, end: Slots, up: &[u64], down: &[u64]) -> Verdict
     requires { ⌜ Sound s ⌝ }
-    requires { ⌜ l ≡ reservableOf s ⌝ }
     requires { ⌜ end ≡ linkOf (timingOf s) (sensor s) .reservation .slots ⌝ }
     requires { ⌜ HeldFrom (linkUp s) 0 (s .h) (now up) ⌝ }
     requires { ⌜ HeldBelow (linkDown s) (s .sink) (now down) ⌝ }
@@ -29,7 +29,7 @@ pub(crate) fn slots_fit(s: Settings, l: Slots, end: Slots, up: &[u64], down: &[u
 {
     let mut i = 0;
     while i <= s.h {
-        let verdict = depth_fits(s, l, end, up, down, i);
+        let verdict = depth_fits(s, end, up, down, i);
         if let Verdict::Broken(_) = verdict {
             return verdict;
         }
@@ -39,15 +39,15 @@ pub(crate) fn slots_fit(s: Settings, l: Slots, end: Slots, up: &[u64], down: &[u
 }
 
 // Number 7 at depth i: the routers off the sink's path, and the one on it.
-fn depth_fits(s: Settings, l: Slots, end: Slots, up: &[u64], down: &[u64], i: u64) -> Verdict
+fn depth_fits(s: Settings, end: Slots, up: &[u64], down: &[u64], i: u64) -> Verdict
     requires { ⌜ Sound s ⌝ }
-    requires { ⌜ l ≡ reservableOf s ⌝ }
     requires { ⌜ end ≡ linkOf (timingOf s) (sensor s) .reservation .slots ⌝ }
     requires { ⌜ HeldFrom (linkUp s) 0 (s .h) (now up) ⌝ }
     requires { ⌜ HeldBelow (linkDown s) (s .sink) (now down) ⌝ }
     requires { ⌜ i ≤ s .h ⌝ }
     ensures { λ r. ⌜ r ≡ firstBroken Broken Kept (usedAt s i) ⌝ }
 {
+    let l = reservable_at(s, i);
     let verdict = off_path_fits(s, l, off_path_slots(s, end, up, i), i);
     if let Verdict::Broken(_) = verdict {
         return verdict;
@@ -60,7 +60,7 @@ fn depth_fits(s: Settings, l: Slots, end: Slots, up: &[u64], down: &[u64], i: u6
 
 // Number 7 at depth i for the routers off the sink's path, which use that many slots.
 fn off_path_fits(s: Settings, l: Slots, used: Slots, i: u64) -> Verdict
-    requires { ⌜ l ≡ reservableOf s ⌝ }
+    requires { ⌜ l ≡ reservableAt s i ⌝ }
     requires { ⌜ used ≡ usedOffPath s i ⌝ }
     requires { ⌜ i ≤ 12 ⌝ }
     ensures { λ r. ⌜ r ≡ firstBroken Broken Kept (offPathAt s i ∷ []) ⌝ }

@@ -17,23 +17,23 @@ answer number place length = record { number = number; place = place; length = l
 unfoldable pub lent : ℕ → List ℕ
 lent n = replicate n 7
 
--- P3's row, and the text of its plan, which has 106 bytes
+-- P3's row with NE 3, and the text of its plan, which has 106 bytes
 unfoldable pub text : List ℕ
-text = ascii "KIND DEPTH RATE BURST SLOTS FRAMES LATENCY BUFFER DELAY\nE 0 1 960 2 1 1064 3 2024\nS 0 4 8096 0 0 0 9 2024\n"
+text = ascii "KIND DEPTH RATE BURST SLOTS FRAMES LATENCY BUFFER DELAY\nE 0 1 960 2 1 1064 3 2024\nS 0 3 6072 0 0 0 7 2024\n"
 
 -- a call of the entry that writes, with that many bytes lent
 unfoldable pub call : String → String → ℕ → Left
 call names row n = planRow (ascii names) (ascii row) (lent n)
 
--- the same under the right names, of P3's row and of P4's
+-- the same under the right names, of that row and of P4's
 unfoldable pub planned : ℕ → Left
-planned n = call "BO SO H NR NE OWN SINK BURST RATE HEAD DATA ACK" "0 0 0 0 4 0 0 1 1 19 7 0" n
+planned n = call "BO SO H NR NE OWN SINK BURST RATE HEAD DATA ACK" "0 0 0 0 3 0 0 1 1 19 7 0" n
 
 unfoldable pub refused : ℕ → Left
 refused n = call "BO SO H NR NE OWN SINK BURST RATE HEAD DATA ACK" "0 0 0 0 5 0 0 1 1 19 7 0" n
 
 pub record Examples : Type 0 where
-  pub check : checkRow (ascii "BO SO H NR NE OWN SINK BURST RATE HEAD DATA ACK") (ascii "0 0 0 0 4 0 0 1 1 19 7 0") ≡ answer 0 0 106
+  pub check : checkRow (ascii "BO SO H NR NE OWN SINK BURST RATE HEAD DATA ACK") (ascii "0 0 0 0 3 0 0 1 1 19 7 0") ≡ answer 0 0 106
   -- a buffer exactly as long as the text, and longer ones
   pub exact : planned 106 ≡ left (answer 0 0 106) text
   pub oneMore : planned 107 ≡ left (answer 0 0 106) (text ++ lent 1)
@@ -45,11 +45,11 @@ pub record Examples : Type 0 where
   -- 1 to 7 come before 8
   pub seven : refused 300 ≡ left (answer 7 0 0) (lent 300)
   pub sevenBeforeEight : refused 0 ≡ left (answer 7 0 0) []
-  pub oneBeforeEight : call "" "0 0 0 0 4 0 0 1 1 19 7 0" 10 ≡ left (answer 1 0 0) (lent 10)
+  pub oneBeforeEight : call "" "0 0 0 0 3 0 0 1 1 19 7 0" 10 ≡ left (answer 1 0 0) (lent 10)
 
 -- P4's line, which has 82 bytes, and that of a planned row, which has 19
 unfoldable pub line : List ℕ
-line = ascii "The slots used at depth 0 are more than can be reserved: 10 used and 8 reservable."
+line = ascii "The slots used at depth 0 are more than can be reserved: 10 used and 7 reservable."
 
 unfoldable pub explained : String → ℕ → Left
 explained row n = explainRow (ascii "BO SO H NR NE OWN SINK BURST RATE HEAD DATA ACK") (ascii row) (lent n)
@@ -60,8 +60,8 @@ pub record Spoken : Type 0 where
   pub more : explained "0 0 0 0 5 0 0 1 1 19 7 0" 84 ≡ left (answer 7 0 82) (line ++ lent 2)
   pub oneLess : explained "0 0 0 0 5 0 0 1 1 19 7 0" 81 ≡ left (answer 8 0 0) (lent 81)
   pub none : explained "0 0 0 0 5 0 0 1 1 19 7 0" 0 ≡ left (answer 8 0 0) []
-  pub planned : explained "0 0 0 0 4 0 0 1 1 19 7 0" 20 ≡ left (answer 0 0 19) (ascii "The row is planned." ++ lent 1)
-  pub plannedShort : explained "0 0 0 0 4 0 0 1 1 19 7 0" 18 ≡ left (answer 8 0 0) (lent 18)
+  pub planned : explained "0 0 0 0 3 0 0 1 1 19 7 0" 20 ≡ left (answer 0 0 19) (ascii "The row is planned." ++ lent 1)
+  pub plannedShort : explained "0 0 0 0 3 0 0 1 1 19 7 0" 18 ≡ left (answer 8 0 0) (lent 18)
   pub noNames : explainRow [] (ascii "x") (lent 41) ≡ left (answer 1 0 40) (ascii "The line of names differs or is missing." ++ lent 1)
   pub one : explainRefusal 1 0 (lent 40) ≡ left (answer 0 0 40) (ascii "The line of names differs or is missing.")
   pub eight : explainRefusal 8 0 (lent 55) ≡ left (answer 0 0 55) (ascii "The lent buffer is shorter than the text to be written.")

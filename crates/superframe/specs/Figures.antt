@@ -2,10 +2,10 @@
 use mathlib.Core.Path.{_≡_}
 use mathlib.Core.Bool.{true, false}
 use mathlib.Core.List.{List, [], _∷_, map}
-use Prim.Native.Nat.{ℕ}
+use Prim.Native.Nat.{ℕ, _^_}
 use Prim.Native.String.{String}
 use Rattle.measure.specs.Measures.{frames, slots, perInterval}
-use Rattle.superframe.specs.Orders.{beaconInterval, superframe, slot, contention, reservable}
+use Rattle.superframe.specs.Orders.{beaconInterval, superframe, slot, beaconLength, contention, reservable}
 use Rattle.superframe.specs.Exchange.{exchange}
 use Rattle.superframe.specs.Reservation.{framesIn, slotsFor, latency}
 
@@ -26,12 +26,27 @@ figures =
     given "X for M = 18, 19, 127, and 127 acknowledged"
     (exchange 18 false .0 ∷ exchange 19 false .0 ∷ exchange 127 false .0 ∷ exchange 127 true .0 ∷ [])
     (60 ∷ 90 ∷ 306 ∷ 340 ∷ [])
-    ∷ given "contention slots for SO 0 to 14"
-    (map (λ so. contention so .0) orders)
+    ∷ given "beacons for g = 0 to 7"
+    (map (λ g. beaconLength g .0) (0 ∷ 1 ∷ 2 ∷ 3 ∷ 4 ∷ 5 ∷ 6 ∷ 7 ∷ []))
+    (38 ∷ 46 ∷ 52 ∷ 58 ∷ 64 ∷ 70 ∷ 76 ∷ 82 ∷ [])
+    ∷ given "contention slots for SO 0 to 14, with g = 0"
+    (map (λ so. contention so 0 .0) orders)
     (8 ∷ 4 ∷ 2 ∷ 1 ∷ 1 ∷ 1 ∷ 1 ∷ 1 ∷ 1 ∷ 1 ∷ 1 ∷ 1 ∷ 1 ∷ 1 ∷ 1 ∷ [])
-    ∷ given "L for SO 0 to 14"
-    (map (λ so. reservable so .0) orders)
+    ∷ given "with g = 1"
+    (map (λ so. contention so 1 .0) orders)
+    (9 ∷ 5 ∷ 3 ∷ 2 ∷ 1 ∷ 1 ∷ 1 ∷ 1 ∷ 1 ∷ 1 ∷ 1 ∷ 1 ∷ 1 ∷ 1 ∷ 1 ∷ [])
+    ∷ given "with g = 7"
+    (map (λ so. contention so 7 .0) orders)
+    (9 ∷ 5 ∷ 3 ∷ 2 ∷ 1 ∷ 1 ∷ 1 ∷ 1 ∷ 1 ∷ 1 ∷ 1 ∷ 1 ∷ 1 ∷ 1 ∷ 1 ∷ [])
+    ∷ given "L for SO 0 to 14, with g = 0"
+    (map (λ so. reservable so 0 .0) orders)
     (8 ∷ 12 ∷ 14 ∷ 15 ∷ 15 ∷ 15 ∷ 15 ∷ 15 ∷ 15 ∷ 15 ∷ 15 ∷ 15 ∷ 15 ∷ 15 ∷ 15 ∷ [])
+    ∷ given "with g = 1"
+    (map (λ so. reservable so 1 .0) orders)
+    (7 ∷ 11 ∷ 13 ∷ 14 ∷ 15 ∷ 15 ∷ 15 ∷ 15 ∷ 15 ∷ 15 ∷ 15 ∷ 15 ∷ 15 ∷ 15 ∷ 15 ∷ [])
+    ∷ given "L for SO 0, with g = 10, 11, 70, 71 and 2^80"
+    (map (λ g. reservable 0 g .0) (10 ∷ 11 ∷ 70 ∷ 71 ∷ 2 ^ 80 ∷ []))
+    (7 ∷ 6 ∷ 1 ∷ 0 ∷ 0 ∷ [])
     ∷ given "BI for BO 0 (15.36 ms), 8 (P1) and 14 (251.65824 s); SD and S for SO 0 and 4"
     (beaconInterval 0 .0 ∷ beaconInterval 8 .0 ∷ beaconInterval 14 .0 ∷ superframe 0 .0 ∷ superframe 4 .0 ∷ slot 0 .0 ∷ slot 4 .0 ∷ [])
     (960 ∷ 245760 ∷ 15728640 ∷ 960 ∷ 15360 ∷ 60 ∷ 960 ∷ [])

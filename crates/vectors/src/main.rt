@@ -4,6 +4,7 @@ use libc::STDOUT_FILENO;
 use measure::Rate;
 use superframe::exchange::exchange_time;
 use superframe::orders::beacon_interval;
+use superframe::orders::beacon_length;
 use superframe::orders::contention_slots;
 use superframe::orders::reservable_slots;
 use superframe::orders::slot_length;
@@ -14,6 +15,15 @@ use superframe::reservation::slots_for;
 
 fn main() {
     orders();
+    beacons();
+    // Superframes without reservations, with 1 to 7, with more than the standard allows, and with more than they can hold.
+    contention(0);
+    contention(1);
+    contention(7);
+    contention(11);
+    contention(70);
+    contention(71);
+    contention(u64::MAX);
     exchanges();
     // Rows of document 01's worked plans: P1, P3, P5, P6; then slots that hold nothing, and rates that no slots hold.
     reservation(8, 4, 26, 1);
@@ -32,15 +42,45 @@ fn orders() {
     }
 }
 
-// BI, SD, S, contention slots, L.
+// BI, SD, S.
 fn order_line(o: u64) {
     name(b"order");
     number(o);
     number(beacon_interval(o).0);
     number(superframe_duration(o).0);
     number(slot_length(o).0);
-    number(contention_slots(o).0);
-    number(reservable_slots(o).0);
+    end();
+}
+
+// The reservations of a router that the standard allows, and one more.
+fn beacons() {
+    for g in 0..9 {
+        beacon_line(g);
+    }
+}
+
+// How long its beacon is.
+fn beacon_line(g: u64) {
+    name(b"beacon");
+    number(g);
+    number(beacon_length(g).0);
+    end();
+}
+
+// Each order of document 01, and one above, of a router with g reservations.
+fn contention(g: u64) {
+    for o in 0..16 {
+        contention_line(o, g);
+    }
+}
+
+// Contention slots, L.
+fn contention_line(o: u64, g: u64) {
+    name(b"contention");
+    number(o);
+    number(g);
+    number(contention_slots(o, g).0);
+    number(reservable_slots(o, g).0);
     end();
 }
 

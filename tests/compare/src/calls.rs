@@ -99,7 +99,7 @@ impl<'a, P: Planner> Calls<'a, P> {
 mod tests {
     use crate::difference::TOO_SHORT;
     use crate::entries::{Answer, Library};
-    use crate::wrong::{is_found_out, Wrong};
+    use crate::wrong::{is_found_out, Wrong, WRONG_COUNTS};
 
     fn fault_is_found_out(fault: impl Fn(&mut Answer, &mut [u8], &mut [u8]) + 'static) -> bool {
         is_found_out(&Wrong { planning: Box::new(fault), ..Wrong::default() })
@@ -109,6 +109,14 @@ mod tests {
     fn the_right_ones_pass() {
         assert!(!is_found_out(&Library));
         assert!(!is_found_out(&Wrong::default()));
+    }
+
+    /// Number 7 by another count of the slots that a router may reserve than that of request E2.
+    #[test]
+    fn another_count_of_slots() {
+        for (name, count) in WRONG_COUNTS {
+            assert!(is_found_out(&Wrong::counting(count)), "{name}");
+        }
     }
 
     #[test]

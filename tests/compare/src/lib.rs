@@ -1,5 +1,5 @@
 //! Holds the planner's entries for C and its programs against the reference implementation of document 01 and of
-//! request E1.
+//! requests E1 and E2.
 
 pub mod buffers;
 pub mod calls;

@@ -169,7 +169,7 @@ mod tests {
     use super::*;
     use crate::difference::TOO_SHORT;
     use crate::entries::{Answer, Refusal};
-    use crate::wrong::{is_found_out, Wrong};
+    use crate::wrong::{is_found_out, Wrong, WRONG_COUNTS};
     use reference::{Phrase, NAMES};
 
     fn explaining(fault: impl Fn(&mut Answer, &mut [u8], &mut [u8]) + 'static) -> bool {
@@ -242,6 +242,15 @@ mod tests {
         for phrase in [Phrase::TextAfter, Phrase::Range, Phrase::Routers, Phrase::Slots] {
             let first = move |line: &mut [u8]| line.iter_mut().find(|byte| byte.is_ascii_digit()).map_or((), other);
             assert!(explaining_in(Some(phrase), first), "{phrase:?}");
+        }
+    }
+
+    /// Number and place are right, but the line of number 7 shows another count of the slots that the router may
+    /// reserve than that of request E2.
+    #[test]
+    fn another_count_of_slots_in_the_line() {
+        for (name, shown) in WRONG_COUNTS {
+            assert!(is_found_out(&Wrong { shown, ..Wrong::default() }), "{name}");
         }
     }
 

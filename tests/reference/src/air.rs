@@ -1,12 +1,17 @@
-//! Document 01, "Time on the air": what a beacon order, a superframe order and a frame length make of time.
-//! All times are in symbols.
+//! Document 01, "Time on the air": what a beacon order, a superframe order and a frame length make of time; and request
+//! E2 of document 02, by which the beacon takes its time too. All times are in symbols.
 
 /// Symbols of the superframe of order 0; its 16 slots have 60 each.
 const BASE_SUPERFRAME: u64 = 960;
 const SLOTS_IN_SUPERFRAME: u64 = 16;
 
-/// The contention period takes the fewest slots that hold this many symbols.
+/// The contention period takes the fewest slots that hold the beacon and, after it, this many symbols.
 const CONTENTION: u64 = 440;
+/// The beacon of a router without reservations.
+const SHORTEST_BEACON: u64 = 38;
+/// The beacon of a router with reservations has this length and so much more for each of them.
+const BEACON: u64 = 40;
+const BEACON_PER_RESERVATION: u64 = 6;
 
 const TURNAROUND: u64 = 12;
 const SYMBOLS_PER_OCTET: u64 = 2;
@@ -25,8 +30,6 @@ pub struct Air {
     slot: u64,
     /// X.
     exchange: u64,
-    /// L, the slots of a superframe that may be reserved.
-    pub reservable: u64,
 }
 
 /// A reservation that carries a rate (frames per BI): k slots, m exchanges.
@@ -40,12 +43,10 @@ pub struct Reservation {
 impl Air {
     /// The times for BO, SO, the frame length M and ACK.
     pub fn new(beacon_order: u64, superframe_order: u64, octets: u64, acknowledged: bool) -> Air {
-        let slot = (BASE_SUPERFRAME << superframe_order) / SLOTS_IN_SUPERFRAME;
         Air {
             interval: BASE_SUPERFRAME << beacon_order,
-            slot,
+            slot: slot(superframe_order),
             exchange: exchange(octets, acknowledged),
-            reservable: SLOTS_IN_SUPERFRAME - CONTENTION.div_ceil(slot),
         }
     }
 
@@ -61,6 +62,28 @@ impl Air {
     pub fn latency(&self, reservation: &Reservation) -> u64 {
         self.interval + 2 * self.exchange - reservation.frames * self.exchange
     }
+}
+
+/// S, the time of one slot.
+fn slot(superframe_order: u64) -> u64 {
+    (BASE_SUPERFRAME << superframe_order) / SLOTS_IN_SUPERFRAME
+}
+
+/// Request E2: the time of the beacon that a router with so many reservations (g) sends. What does not fit into 64 bits
+/// counts as the largest number that does; either is far longer than a superframe.
+fn beacon(reservations: u64) -> u64 {
+    if reservations == 0 {
+        SHORTEST_BEACON
+    } else {
+        BEACON.saturating_add(BEACON_PER_RESERVATION.saturating_mul(reservations))
+    }
+}
+
+/// Request E2: L, the slots that a router with so many reservations (g) may reserve, which are those that its
+/// contention period leaves; 0 where that leaves none.
+pub fn reservable(superframe_order: u64, reservations: u64) -> u64 {
+    let contention = CONTENTION.saturating_add(beacon(reservations)).div_ceil(slot(superframe_order));
+    SLOTS_IN_SUPERFRAME.saturating_sub(contention)
 }
 
 /// X, the time of one exchange.
@@ -83,10 +106,69 @@ mod tests {
     }
 
     #[test]
-    fn slots_that_may_be_reserved() {
-        let reservable = |order| Air::new(14, order, 18, false).reservable;
-        assert_eq!([0, 1, 2].map(reservable), [8, 12, 14]);
-        assert!((3..=14).all(|order| reservable(order) == 15));
+    fn beacons() {
+        assert_eq!([0, 1, 2, 7].map(beacon), [38, 46, 52, 82]);
+        assert_eq!([255, 1_000_000].map(beacon), [1_570, 6_000_040]);
+    }
+
+    /// The four contention periods that request E2 works out, as what they leave of 16 slots: 1 and 2 slots at SO 3, 8
+    /// and 9 at SO 0.
+    #[test]
+    fn slots_that_request_e2_works_out() {
+        assert_eq!((reservable(3, 0), reservable(3, 1)), (15, 14));
+        assert_eq!((reservable(0, 0), reservable(0, 1)), (8, 7));
+    }
+
+    /// 440 symbols and the beacon are 478 without reservations, 486 with one, and 522 with seven, which are the most.
+    /// For SO 0 to 3 slots have 60, 120, 240 and 480 symbols: 478 fit into 480, which 8, 4, 2 slots and 1 have, and 486
+    /// to 522 need one slot more. From SO 4 on one slot of 960 or more holds them all.
+    #[test]
+    fn slots_that_the_routers_of_a_tree_may_reserve() {
+        let without = [8, 12, 14, 15, 15];
+        let with_some = [7, 11, 13, 14, 15];
+        for (order, (without, with_some)) in (0..).zip(without.into_iter().zip(with_some)) {
+            assert_eq!(reservable(order, 0), without, "SO {order}");
+            assert!((1..=7).all(|reservations| reservable(order, reservations) == with_some), "SO {order}");
+        }
+        assert!((5..=14).all(|order| (0..=7).all(|reservations| reservable(order, reservations) == 15)));
+    }
+
+    /// Beyond what a tree can have, the beacon takes further slots. With g reservations 480 + 6 × g symbols are to be
+    /// held: at SO 0 just the 540 of 9 slots with g = 10, the 900 of 15 with g = 70 and the 960 of all 16 with g = 80;
+    /// at SO 3 and SO 4 just the 960 of 2 slots and of 1 with g = 80; at SO 14 just the 14,745,600 of 15 with g =
+    /// 2,457,520.
+    #[test]
+    fn slots_with_more_reservations_than_a_tree_can_have() {
+        assert_eq!((reservable(0, 10), reservable(0, 11)), (7, 6));
+        assert_eq!((reservable(3, 80), reservable(3, 81)), (14, 13));
+        assert_eq!((reservable(4, 80), reservable(4, 81)), (15, 14));
+        assert_eq!((reservable(0, 70), reservable(0, 71)), (1, 0));
+        assert_eq!((reservable(0, 80), reservable(0, 81)), (0, 0));
+        assert_eq!((reservable(14, 2_457_520), reservable(14, 2_457_521)), (1, 0));
+    }
+
+    /// Where nothing is left L is 0, also where the time of the beacon does not fit into 64 bits.
+    #[test]
+    fn no_slots_are_left_by_a_huge_beacon() {
+        let edge = u64::MAX / BEACON_PER_RESERVATION;
+        for order in 0..=14 {
+            for reservations in [1 << 24, 1 << 32, edge - 100, edge - 1, edge, edge + 1, u64::MAX - 1, u64::MAX] {
+                assert_eq!(reservable(order, reservations), 0, "SO {order}, {reservations} reservations");
+            }
+        }
+    }
+
+    /// More reservations never leave more slots, and none ever leave more than document 01's count, by which the
+    /// contention period holds 440 symbols and no beacon.
+    #[test]
+    fn a_beacon_only_takes_slots() {
+        for order in 0..=14 {
+            let without_beacon = SLOTS_IN_SUPERFRAME - CONTENTION.div_ceil(slot(order));
+            assert!(reservable(order, 0) <= without_beacon);
+            let falls = |reservations| reservable(order, reservations + 1) <= reservable(order, reservations);
+            assert!((0..3_000).all(falls), "SO {order}");
+            assert!((0..63).all(|power| reservable(order, 2 << power) <= reservable(order, 1 << power)), "SO {order}");
+        }
     }
 
     #[test]

@@ -1,7 +1,8 @@
 //! A second implementation of the planner that document 01 ("Cluster-tree reservation planner for battery radio
-//! sensors") sets out, with the reasons of request E1 of document 02. It was written from the words of those documents
-//! alone, so that another implementation can be compared with it; only the phrases of the reasons, which document 02
-//! leaves open, were given. Words such as BI, S, X, L, k, m and T are those of document 01.
+//! sensors") sets out, with the reasons of request E1 of document 02 and the beacon's time of request E2. It was
+//! written from the words of those documents alone, so that another implementation can be compared with it; only the
+//! phrases of the reasons, which document 02 leaves open, were given. Words such as BI, S, X, L, k, m and T are those
+//! of document 01, and g is that of request E2.
 
 mod air;
 mod reason;
@@ -11,8 +12,9 @@ mod text;
 mod tree;
 
 pub use reason::{line_of, read_reason, whole_line, Phrase, PLANNED};
+pub use settings::Settings;
 pub use text::{explanations, program, write_plan, INPUT_LIMIT, NAMES};
-pub use tree::{Kind, Line, Plan};
+pub use tree::{reservable, reservations, Kind, Line, Plan};
 
 /// A refusal: its number in the table of document 01 ("Rows of settings") and its place, and what its line says.
 #[derive(Clone, Copy, Debug, PartialEq, Eq)]
@@ -42,12 +44,22 @@ pub type Outcome = Result<Plan, Refusal>;
 
 /// Plans a line of values, given without its LF: conditions 2 to 7 in the order of the table.
 pub fn plan_row(row: &[u8]) -> Outcome {
-    let settings = settings::read(row)?;
-    Ok(tree::reserve(&settings)?.plan())
+    plan_row_counting(row, reservable)
 }
 
 /// Plans a line of values under a name line, both given without their LF: conditions 1 to 7.
 pub fn plan_named_row(names: &[u8], row: &[u8]) -> Outcome {
+    plan_named_row_counting(names, row, reservable)
+}
+
+/// Plans like `plan_named_row`, but with this count of the slots that a router at a depth may reserve. It is for tests
+/// that want a planner with a wrong count.
+pub fn plan_named_row_counting(names: &[u8], row: &[u8], count: impl Fn(&Settings, usize) -> u64) -> Outcome {
     text::check_names(names)?;
-    plan_row(row)
+    plan_row_counting(row, count)
+}
+
+fn plan_row_counting(row: &[u8], count: impl Fn(&Settings, usize) -> u64) -> Outcome {
+    let settings = settings::read(row)?;
+    Ok(tree::reserve_counting(&settings, count)?.plan())
 }

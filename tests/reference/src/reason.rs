@@ -107,11 +107,9 @@ impl Phrase {
                 of(4, 11, "Values are at odds at DATA, which with HEAD may not be above 127: HEAD is # and DATA is #.")
             }
             Phrase::Reservations => of(5, 0, "A router would have more than 7 reservations: NE is # and NR is #."),
-            Phrase::Routers => of(
-                6,
-                0,
-                "There are more routers than superframes that fit a beacon interval: # against #.",
-            ),
+            Phrase::Routers => {
+                of(6, 0, "There are more routers than superframes that fit a beacon interval: # against #.")
+            }
             Phrase::Slots => {
                 of(7, 0, "The slots used at depth % are more than can be reserved: # used and # reservable.")
             }
@@ -267,11 +265,23 @@ mod tests {
         assert_eq!(line("14 0 12 7 0 1 0 1 1 5 1 0"), expected);
     }
 
-    /// X = 104 symbols, S = 60: each of five end nodes needs 2 slots of the 8.
+    /// X = 104 symbols, S = 60: each of four or five end nodes needs 2 slots of the 7 that request E2 leaves.
     #[test]
     fn number_7() {
-        let expected = "The slots used at depth 0 are more than can be reserved: 10 used and 8 reservable.";
+        let expected = "The slots used at depth 0 are more than can be reserved: 10 used and 7 reservable.";
         assert_eq!(line("0 0 0 0 5 0 0 1 1 19 7 0"), expected);
+        let expected = "The slots used at depth 0 are more than can be reserved: 8 used and 7 reservable.";
+        assert_eq!(line("0 0 0 0 4 0 0 1 1 19 7 0"), expected);
+    }
+
+    /// The values are those of the router that is refused, also where one at depth H may reserve a slot more (request
+    /// E2).
+    #[test]
+    fn number_7_shows_what_the_router_may_reserve() {
+        let expected = "The slots used at depth 0 are more than can be reserved: 8 used and 7 reservable.";
+        assert_eq!(line("4 0 1 1 0 1 0 1 8 17 1 0"), expected);
+        let expected = "The slots used at depth 5 are more than can be reserved: 15 used and 14 reservable.";
+        assert_eq!(line("14 3 6 2 0 1 6 1 1 12 1 0"), expected);
     }
 
     #[test]

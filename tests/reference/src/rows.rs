@@ -16,7 +16,7 @@ pub use reach::{plannable_shapes, reachable_refusals, Seen};
 pub use rng::Rng;
 
 use crate::settings::{settle, Values, COLUMNS};
-use crate::tree::reserve;
+use crate::tree::{excess, reserve};
 
 // Columns by name, as indexes of `Values`.
 const BO: usize = 0;
@@ -50,7 +50,8 @@ pub fn row(rng: &mut Rng) -> Vec<u8> {
 fn values(rng: &mut Rng) -> Values {
     match rng.below(83) {
         0..=34 => planned::planned(rng),
-        35..=49 => planned::at_slot_edge(rng),
+        35..=43 => planned::at_slot_edge(rng),
+        44..=49 => planned::at_beacon_edge(rng),
         50..=53 => refused::overfull(rng),
         54..=61 => refused::out_of_range(rng),
         62..=69 => refused::at_odds(rng),
@@ -96,7 +97,8 @@ fn set_octets(rng: &mut Rng, values: &mut Values, octets: u64) {
 #[cfg(test)]
 mod tests {
     use super::*;
-    use crate::tree::fullest;
+    use crate::Settings;
+    use std::collections::BTreeMap;
 
     #[test]
     fn written_values() {
@@ -147,19 +149,39 @@ mod tests {
         assert!(counts.iter().all(|&count| count >= 50), "{counts:?}");
     }
 
+    /// Rows whose fullest router uses just the slots that it may reserve, and one more: for SO 0 to 3, at which its
+    /// longer beacon counts (request E2), and for the others together. For each there are rows with end nodes and rows
+    /// without any; in these a router at depth H may reserve a slot more than those above it if SO is 3 or less.
+    #[test]
+    fn both_sides_of_what_each_router_may_reserve_are_drawn() {
+        let mut rng = Rng::new(12);
+        let mut counts = BTreeMap::new();
+        for _ in 0..50_000 {
+            let drawn = values(&mut rng);
+            let reached = |settings: &Settings| reserve(settings).err().is_none_or(|refusal| refusal.number == 7);
+            let excess = settle(&drawn).ok().filter(reached).map(|settings| excess(&settings));
+            *counts.entry((drawn[SO].min(4), drawn[NE] == 0, excess)).or_insert(0) += 1;
+        }
+        for order in 0..=4 {
+            for (bare, excess) in [(false, 0), (false, 1), (true, 0), (true, 1)] {
+                let count = counts.get(&(order, bare, Some(excess))).copied().unwrap_or(0);
+                assert!(count >= 50, "SO {order}, no end nodes {bare}, excess {excess}: {count} rows");
+            }
+        }
+    }
+
     fn limits(drawn: &Values) -> [bool; 14] {
         let settled = settle(drawn);
         let refused = |place| matches!(&settled, Err(refusal) if (refusal.number, refusal.place) == (4, place));
         let reserved = settled.as_ref().ok().and_then(|settings| reserve(settings).err());
         let reached = settled.is_ok() && reserved.is_none_or(|refusal| refusal.number == 7);
-        let spare = settled.as_ref().ok().filter(|_| reached).map(fullest);
-        let spare = spare.map(|(used, reservable)| used as i64 - reservable as i64);
+        let excess = settled.as_ref().ok().filter(|_| reached).map(excess);
         let tree = settled.is_ok() && drawn[NE] + drawn[NR] <= 7;
         let gap = if tree { drawn[BO] - drawn[SO] } else { 0 };
         let line_tree = tree && drawn[NR] == 1;
         [
-            spare == Some(0),
-            spare == Some(1),
+            excess == Some(0),
+            excess == Some(1),
             line_tree && drawn[H] + 1 == 1 << gap,
             line_tree && drawn[H] == 1 << gap,
             settled.is_ok() && drawn[NE] + drawn[NR] == 7,

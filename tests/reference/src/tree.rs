@@ -1,6 +1,7 @@
-//! Document 01, "The tree and its loads": reservations, conditions 5, 6 and 7, and the lines of the plan.
+//! Document 01, "The tree and its loads": reservations, conditions 5, 6 and 7, and the lines of the plan. By request E2
+//! of document 02 condition 7 has a limit for each router.
 
-use crate::air::{Air, Reservation};
+use crate::air::{self, Air, Reservation};
 use crate::settings::Settings;
 use crate::{Phrase, Refusal};
 
@@ -49,8 +50,26 @@ pub struct Tree<'a> {
     down: [Reservation; HIGHEST],
 }
 
+/// Request E2: L of a router at this depth, the slots that it may reserve.
+pub fn reservable(settings: &Settings, depth: usize) -> u64 {
+    air::reservable(settings.superframe_order, reservations(settings, depth))
+}
+
+/// The reservations in the superframe of a router at this depth (g of request E2): one for each of its NE end nodes
+/// and, above depth H, one for each of its NR child routers. On the sink's path the downward one takes the place of an
+/// upward one.
+pub fn reservations(settings: &Settings, depth: usize) -> u64 {
+    let children = if depth < settings.height { settings.routers } else { 0 };
+    settings.end_nodes + children
+}
+
 /// Conditions 5, 6 and 7.
 pub fn reserve(settings: &Settings) -> Result<Tree<'_>, Refusal> {
+    reserve_counting(settings, reservable)
+}
+
+/// The same with this count of the slots that a router at a depth may reserve.
+pub fn reserve_counting(settings: &Settings, count: impl Fn(&Settings, usize) -> u64) -> Result<Tree<'_>, Refusal> {
     if settings.end_nodes + settings.routers > MOST_RESERVATIONS {
         return Err(Refusal::new(Phrase::Reservations, 0, [settings.end_nodes, settings.routers]));
     }
@@ -61,8 +80,9 @@ pub fn reserve(settings: &Settings) -> Result<Tree<'_>, Refusal> {
     }
     let tree = Tree::new(settings);
     for depth in 0..=settings.height {
-        if let Some(used) = tree.slots_used(depth).find(|&used| used > tree.air.reservable) {
-            return Err(Refusal::new(Phrase::Slots, depth as u32, [used, tree.air.reservable]));
+        let reservable = count(settings, depth);
+        if let Some(used) = tree.slots_used(depth).find(|&used| used > reservable) {
+            return Err(Refusal::new(Phrase::Slots, depth as u32, [used, reservable]));
         }
     }
     Ok(tree)
@@ -220,12 +240,15 @@ impl Bursts<'_> {
     }
 }
 
-/// The most slots that any depth uses, and L, for settings that keep conditions 5 and 6.
-#[cfg(test)]
-pub fn fullest(settings: &Settings) -> (u64, u64) {
+/// By how much the slots that a router uses exceed those that it may reserve, for the router where that is most. It is
+/// 0 or less for settings that are planned. The settings keep conditions 5 and 6.
+pub fn excess(settings: &Settings) -> i64 {
     let tree = Tree::new(settings);
-    let used = (0..=settings.height).flat_map(|depth| tree.slots_used(depth)).max();
-    (used.unwrap_or(0), tree.air.reservable)
+    let excess = |depth| {
+        let reservable = reservable(settings, depth) as i64;
+        tree.slots_used(depth).map(move |used| used as i64 - reservable)
+    };
+    (0..=settings.height).flat_map(excess).max().expect("every tree has a root")
 }
 
 #[cfg(test)]
@@ -241,6 +264,16 @@ mod tests {
         plan_row(row.as_bytes()).err().map(|refusal| (refusal.number, refusal.place))
     }
 
+    /// Place and values of a refusal with number 7.
+    fn slots(row: &str) -> Option<(u32, [u64; 2])> {
+        let refusal = plan_row(row.as_bytes()).err().filter(|refusal| refusal.number == 7);
+        refusal.map(|refusal| (refusal.place, refusal.values))
+    }
+
+    fn read(row: &str) -> Settings {
+        crate::settings::read(row.as_bytes()).ok().unwrap()
+    }
+
     #[test]
     fn p1_lines() {
         let lines = lines("8 4 1 2 1 0 0 1 1 19 7 0");
@@ -249,12 +282,15 @@ mod tests {
         assert_eq!(lines[2].delay, 571_904);
     }
 
+    /// By request E2 P3's row is refused: 4 end nodes use 8 slots, and of 440 symbols and the beacon's 64 the
+    /// contention period takes 9 slots of 60, which leaves 7. P4's row uses 10 of 7, as 440 and 70 symbols take 9 slots
+    /// too. One end node less than in P3 is planned, with the figures that document 01 has there.
     #[test]
     fn p3_and_p4() {
-        let lines = lines("0 0 0 0 4 0 0 1 1 19 7 0");
-        let end_node = lines[0];
+        assert_eq!(slots("0 0 0 0 4 0 0 1 1 19 7 0"), Some((0, [8, 7])));
+        assert_eq!(slots("0 0 0 0 5 0 0 1 1 19 7 0"), Some((0, [10, 7])));
+        let end_node = lines("0 0 0 0 3 0 0 1 1 19 7 0")[0];
         assert_eq!((end_node.slots, end_node.frames, end_node.latency, end_node.delay), (2, 1, 1_064, 2_024));
-        assert_eq!(refusal("0 0 0 0 5 0 0 1 1 19 7 0"), Some((7, 0)));
     }
 
     #[test]
@@ -289,41 +325,141 @@ mod tests {
         assert_eq!(lines.iter().map(|line| line.rate).collect::<Vec<_>>(), [1, 2, 6, 14, 16, 24, 30]);
     }
 
-    /// Rows that the first depth with too few slots answers, at each depth where that can happen.
+    /// Rows that the first depth with too few slots answers, at each depth below the root where that can happen.
     #[test]
     fn first_depth_with_too_few_slots() {
-        assert_eq!(refusal("14 1 2 2 3 0 2 1 1 11 1 0"), Some((7, 1)));
-        assert_eq!(refusal("14 1 4 2 0 1 3 1 1 9 1 0"), Some((7, 2)));
-        assert_eq!(refusal("14 5 5 2 3 0 5 1 1 30 1 0"), Some((7, 4)));
-        assert_eq!(refusal("14 3 6 2 1 0 6 1 1 12 1 0"), Some((7, 5)));
-        assert_eq!(refusal("14 6 7 2 1 0 7 1 1 55 1 1"), Some((7, 6)));
-    }
-
-    /// Place and values of a refusal with number 7.
-    fn slots(row: &str) -> Option<(u32, [u64; 2])> {
-        let refusal = plan_row(row.as_bytes()).err().filter(|refusal| refusal.number == 7);
-        refusal.map(|refusal| (refusal.place, refusal.values))
+        assert_eq!(slots("14 1 2 2 1 0 2 1 1 27 1 1"), Some((1, [12, 11])));
+        assert_eq!(slots("14 2 4 2 0 1 3 1 1 21 1 0"), Some((2, [14, 13])));
+        assert_eq!(slots("14 5 5 2 3 0 5 1 1 30 1 0"), Some((4, [16, 15])));
+        assert_eq!(slots("14 3 6 2 0 1 6 1 1 12 1 0"), Some((5, [15, 14])));
+        assert_eq!(slots("14 6 7 2 1 0 7 1 1 55 1 1"), Some((6, [16, 15])));
     }
 
     /// S = 60 and X = 104: 2 slots for each of 3 end nodes, 6 for an upward link of rate 3, 11 for the downward one of
     /// rate 6. A root with the sink below it has one upward link less.
     #[test]
     fn slots_used_at_the_root() {
-        assert_eq!(slots("14 0 1 2 3 0 0 1 1 19 7 0"), Some((0, [3 * 2 + 2 * 6, 8])));
-        assert_eq!(slots("14 0 1 2 3 0 1 1 1 19 7 0"), Some((0, [3 * 2 + 6 + 11, 8])));
+        assert_eq!(slots("14 0 1 2 3 0 0 1 1 19 7 0"), Some((0, [3 * 2 + 2 * 6, 7])));
+        assert_eq!(slots("14 0 1 2 3 0 1 1 1 19 7 0"), Some((0, [3 * 2 + 6 + 11, 7])));
     }
 
-    /// S = 120 and X = 48: 1 slot for each of 3 end nodes. The root just fits with 4 slots for rate 9 from below and 5
-    /// for rate 12 to below. At depth 1 a router off the path uses 7, the one on it 2 for rate 3 and 8 for rate 18.
+    /// S = 120 and X = 142: 2 slots for the end node. The root just fits with 4 slots for rate 3 from below and 5 for
+    /// rate 4 to below. At depth 1 a router off the path uses 6, the one on it 2 for rate 1 and 8 for rate 6.
     #[test]
     fn slots_used_on_the_path_where_those_off_it_fit() {
-        assert_eq!(slots("14 1 2 2 3 0 2 1 1 11 1 0"), Some((1, [3 + 2 + 8, 12])));
+        assert_eq!(slots("14 1 2 2 1 0 2 1 1 27 1 1"), Some((1, [2 + 2 + 8, 11])));
+    }
+
+    /// The downward reservation takes the place of one upward: on the path and off it there are NE + NR.
+    #[test]
+    fn reservations_by_depth() {
+        let by_depth = |row: &str| {
+            let settings = read(row);
+            (0..=settings.height).map(|depth| reservations(&settings, depth)).collect::<Vec<_>>()
+        };
+        assert_eq!(by_depth("14 0 2 2 3 0 0 1 1 5 1 0"), [5, 5, 3]);
+        assert_eq!(by_depth("14 0 2 2 3 0 2 1 1 5 1 0"), [5, 5, 3]);
+        assert_eq!(by_depth("14 0 3 1 0 1 0 1 1 5 1 0"), [1, 1, 1, 0]);
+        assert_eq!(by_depth("14 0 0 0 7 0 0 1 1 5 1 0"), [7]);
+        assert_eq!(by_depth("14 0 0 0 0 1 0 1 1 5 1 0"), [0]);
+    }
+
+    /// Request E2, "check 7 uses each router's own": without end nodes a router at depth H has no reservations, and may
+    /// reserve one slot more than those above it.
+    #[test]
+    fn slots_that_may_be_reserved_by_depth() {
+        let by_depth = |row: &str| {
+            let settings = read(row);
+            (0..=settings.height).map(|depth| reservable(&settings, depth)).collect::<Vec<_>>()
+        };
+        assert_eq!(by_depth("14 0 2 1 0 1 0 1 1 5 1 0"), [7, 7, 8]);
+        assert_eq!(by_depth("14 1 2 1 0 1 0 1 1 5 1 0"), [11, 11, 12]);
+        assert_eq!(by_depth("14 2 2 2 0 1 2 1 1 5 1 0"), [13, 13, 14]);
+        assert_eq!(by_depth("14 3 2 2 0 1 2 1 1 5 1 0"), [14, 14, 15]);
+        assert_eq!(by_depth("14 4 2 2 0 1 2 1 1 5 1 0"), [15, 15, 15]);
+        assert_eq!(by_depth("14 0 2 1 1 0 0 1 1 5 1 0"), [7, 7, 7]);
+    }
+
+    /// X = S = 60, and the root has one reservation, of 8 slots for rate 8: L(0, 1) is 7. At depth 1, which is depth H,
+    /// there are none, and L(0, 0) is 8; a planner that uses this one at every depth plans the row.
+    #[test]
+    fn the_root_does_not_get_the_slots_of_depth_h() {
+        let row = "4 0 1 1 0 1 0 1 8 17 1 0";
+        assert_eq!(slots(row), Some((0, [8, 7])));
+        let settings = read(row);
+        assert!(reserve_counting(&settings, |settings, _| reservable(settings, settings.height)).is_ok());
+        assert_eq!(refusal("4 0 1 1 0 1 0 1 7 17 1 0"), None);
+    }
+
+    /// Rows in which a router uses all the slots that it may reserve, with its reservations (g of request E2) and those
+    /// slots (L). X is 60 where HEAD is 17, else 36, and S is 60, 120, 240, 480 and 960 for SO 0 to 4. With 6
+    /// reservations no router uses just 7 slots at SO 0.
+    const JUST_PLANNED: [(&str, u64, u64); 14] = [
+        ("0 0 0 0 1 0 0 1 7 17 1 0", 1, 7),
+        ("1 0 1 1 0 1 0 1 7 17 1 0", 1, 7),
+        ("3 0 6 1 1 0 0 1 1 17 1 0", 2, 7),
+        ("1 0 1 1 2 0 0 1 2 5 1 0", 3, 7),
+        ("2 0 1 2 1 1 1 1 1 17 1 0", 3, 7),
+        ("1 0 1 1 3 1 0 1 1 17 1 0", 4, 7),
+        ("1 0 1 1 4 0 0 1 1 5 1 0", 5, 7),
+        ("0 0 0 0 7 0 0 1 1 17 1 0", 7, 7),
+        ("1 1 0 0 1 0 0 1 22 17 1 0", 1, 11),
+        ("2 1 1 1 5 1 0 1 2 17 1 0", 6, 11),
+        ("2 2 0 0 1 0 0 1 52 17 1 0", 1, 13),
+        ("3 2 1 1 6 1 0 1 4 17 1 0", 7, 13),
+        ("5 3 1 2 4 1 0 1 8 17 1 0", 6, 14),
+        ("4 4 0 0 1 0 0 1 240 17 1 0", 1, 15),
+    ];
+
+    #[test]
+    fn all_slots_used() {
+        for (row, of_router, slots) in JUST_PLANNED {
+            assert_eq!(refusal(row), None, "{row}");
+            let settings = read(row);
+            assert_eq!(excess(&settings), 0, "{row}");
+            let tree = Tree::new(&settings);
+            let is_full = |depth: &usize| tree.slots_used(*depth).any(|used| used == reservable(&settings, *depth));
+            let full = (0..=settings.height).find(is_full).unwrap();
+            assert_eq!((reservations(&settings, full), reservable(&settings, full)), (of_router, slots), "{row}");
+        }
+    }
+
+    /// Rows in which the root uses one slot more than it may reserve: with 1 to 6 reservations at SO 0, with 7 at SO 1,
+    /// as 7 never use just 8 slots at SO 0, and with one at SO 1 to 4. X is 60 where HEAD is 17, 48 where it is 11 and
+    /// 36 where it is 5.
+    #[test]
+    fn one_slot_too_many() {
+        for (row, slots_used) in [
+            ("0 0 0 0 1 0 0 1 8 17 1 0", [8, 7]),
+            ("3 0 7 1 1 0 0 1 1 17 1 0", [8, 7]),
+            ("1 0 1 1 2 0 0 1 2 11 1 0", [8, 7]),
+            ("0 0 0 0 4 0 0 1 2 17 1 0", [8, 7]),
+            ("1 0 1 1 4 0 0 1 1 17 1 0", [8, 7]),
+            ("1 0 1 1 5 0 0 1 1 5 1 0", [8, 7]),
+            ("2 1 1 1 6 0 0 1 2 17 1 0", [12, 11]),
+            ("1 1 0 0 1 0 0 1 23 17 1 0", [12, 11]),
+            ("2 2 0 0 1 0 0 1 53 17 1 0", [14, 13]),
+            ("3 3 0 0 1 0 0 1 113 17 1 0", [15, 14]),
+            ("4 4 0 0 1 0 0 1 241 17 1 0", [16, 15]),
+        ] {
+            assert_eq!(slots(row), Some((0, slots_used)), "{row}");
+            assert_eq!(excess(&read(row)), 1, "{row}");
+        }
+    }
+
+    /// A router without reservations may reserve 8 slots at SO 0 and uses none, whatever its sensor makes: no row uses
+    /// all of them.
+    #[test]
+    fn no_reservations_no_slots() {
+        let row = "0 0 0 0 0 1 0 255 4095 126 1 1";
+        assert_eq!(refusal(row), None);
+        assert_eq!((reservable(&read(row), 0), excess(&read(row))), (8, -8));
     }
 
     #[test]
     fn both_sorts_of_router() {
         let used = |row: &str| {
-            let settings = crate::settings::read(row.as_bytes()).ok().unwrap();
+            let settings = read(row);
             let tree = Tree::new(&settings);
             (0..=settings.height).map(|depth| tree.slots_used(depth).collect()).collect::<Vec<Vec<u64>>>()
         };

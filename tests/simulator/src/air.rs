@@ -1,4 +1,5 @@
-//! Times and slot counts of a row (document 01, "Time on the air").
+//! Times and slot counts of a row (document 01, "Time on the air", with the beacon's time of request E2
+//! of document 02).
 //!
 //! All results are small: BI is at most 960 × 2^14, so u64 holds every product made here.
 
@@ -14,9 +15,25 @@ pub fn slot(row: &Row) -> u64 {
     60 << row.so
 }
 
-/// L, the slots that may be reserved: 16 less the fewest slots that hold 440 symbols.
-pub fn free_slots(row: &Row) -> u64 {
-    16 - 440_u64.div_ceil(slot(row))
+/// g, the reservations in the superframe of a router at a depth: one for each end node and, above depth
+/// H, one for each child router; with the sink below it, one of these is downward.
+pub fn reservations(row: &Row, depth: u64) -> u64 {
+    row.ne + if depth < row.h { row.nr } else { 0 }
+}
+
+/// The beacon of a router with so many reservations, in symbols (request E2).
+fn beacon(reservations: u64) -> u64 {
+    match reservations {
+        0 => 38,
+        some => 40 + 6 * some,
+    }
+}
+
+/// L, the slots that a router with so many reservations may reserve: 16 less the fewest slots that hold
+/// 440 symbols and its beacon (request E2). A row that comes to check 7 has at most 7 reservations, with
+/// which some slots are always left.
+pub fn free_slots(row: &Row, reservations: u64) -> u64 {
+    16 - (440 + beacon(reservations)).div_ceil(slot(row))
 }
 
 /// One exchange X in symbols.
@@ -52,13 +69,26 @@ mod tests {
         assert_eq!(frame(127, 1), 340);
     }
 
-    /// L is 8, 12, 14 for SO 0, 1, 2 and 15 from 3 on.
+    /// Request E2 works out 1 and 2 slots for contention at SO 3, and 8 and 9 at SO 0, without and with a
+    /// reservation. Slots of 60, 120, 240, 480 and 960 symbols hold 478 symbols in 8, 4, 2, 1 and 1 of
+    /// them, and the 486 to 522 that 1 to 7 reservations need in 9, 5, 3, 2 and 1.
     #[test]
     fn slots_left() {
         let mut row = Row::read("14 0 0 0 1 0 0 1 1 5 1 0");
-        for (so, left) in [(0, 8), (1, 12), (2, 14), (3, 15), (4, 15), (14, 15)] {
+        for (so, without, with_some) in [(0, 8, 7), (1, 12, 11), (2, 14, 13), (3, 15, 14), (4, 15, 15), (14, 15, 15)] {
             row.so = so;
-            assert_eq!(free_slots(&row), left);
+            assert_eq!(free_slots(&row, 0), without);
+            assert!((1..=7).all(|reservations| free_slots(&row, reservations) == with_some));
         }
+    }
+
+    /// Above depth H there are NE + NR, at depth H NE, wherever the sink is.
+    #[test]
+    fn reservations_by_depth() {
+        let row = Row::read("14 0 2 3 2 0 0 1 1 5 1 0");
+        for row in [row, Row { sink: 2, ..row }] {
+            assert_eq!([0, 1, 2].map(|depth| reservations(&row, depth)), [5, 5, 2]);
+        }
+        assert_eq!(reservations(&Row::read("14 0 0 0 4 0 0 1 1 5 1 0"), 0), 4);
     }
 }

@@ -1,5 +1,5 @@
-//! The plan of a row by document 01's recurrences ("The tree and its loads"), read independently of
-//! any other planner, with five deliberately wrong versions.
+//! The plan of a row by document 01's recurrences ("The tree and its loads") and request E2 of document
+//! 02, read independently of any other planner, with five deliberately wrong versions.
 //!
 //! Arithmetic is in u128. A rate is at most 4095 × 8 times the number of routers; the number of
 //! routers is at most 13 × 7^12 before check 6 and 2^14 after it; bursts and latencies are made only
@@ -128,9 +128,9 @@ fn too_many(row: &Row) -> Option<(u64, u64)> {
     if routers > 1 << (row.bo - row.so) {
         return Some((6, 0));
     }
-    let used = most_slots(row);
-    let over = used.iter().position(|slots| *slots > u128::from(air::free_slots(row)))?;
-    Some((7, over as u64))
+    let free = |depth| air::free_slots(row, air::reservations(row, depth));
+    let over = (0..).zip(most_slots(row)).find(|(depth, slots)| *slots > u128::from(free(*depth)));
+    over.map(|(depth, _)| (7, depth))
 }
 
 /// The most slots used by a router at each depth (document 01, "Slots used at depth i").
@@ -254,14 +254,38 @@ mod tests {
         assert_eq!(planned("8 4 1 2 1 0 1 1 1 19 7 0"), expected);
     }
 
-    /// P3: 8 slots of 8 used, k = 2, m = 1, T = 1064, delay 2024.
+    /// P3's figures, k = 2, m = 1, T = 1064, delay 2024, with one end node less: 6 slots of the 7 that
+    /// request E2 leaves are used. P3's own row uses 8 of 7 and is refused.
     #[test]
-    fn all_slots() {
-        let row = Row::read("0 0 0 0 4 0 0 1 1 19 7 0");
-        assert_eq!(most_slots(&row), [8]);
+    fn third_plan() {
+        let row = Row::read("0 0 0 0 3 0 0 1 1 19 7 0");
+        assert_eq!(most_slots(&row), [6]);
         let Answer::Plan(lines) = answer(&row, Version::Right) else { panic!("planned") };
         let line = &lines[0];
         assert_eq!((line.slots, line.frames, line.latency, line.delay), (2, 1, 1064, 2024));
+        assert_eq!(planned("0 0 0 0 4 0 0 1 1 19 7 0"), "R 7 0\n");
+    }
+
+    /// All slots that may be reserved are used, with 1 and with 7 reservations. X = S = 60.
+    #[test]
+    fn all_slots() {
+        for row in ["0 0 0 0 1 0 0 1 7 5 13 0", "0 0 0 0 7 0 0 1 1 5 13 0"] {
+            assert_eq!(most_slots(&Row::read(row)), [7]);
+            assert!(planned(row).starts_with("KIND"), "{row}");
+        }
+        assert_eq!(planned("0 0 0 0 1 0 0 1 8 5 13 0"), "R 7 0\n");
+    }
+
+    /// Each depth has its own limit: with X = S = 60 the root uses 8 slots for its one reservation and may
+    /// use 7. Depth H has no reservations, and with its 8 slots for every depth the row would be planned.
+    #[test]
+    fn limit_of_each_depth() {
+        let row = Row::read("4 0 1 1 0 1 0 1 8 17 1 0");
+        assert_eq!(most_slots(&row), [8, 0]);
+        assert_eq!([0, 1].map(|depth| air::free_slots(&row, air::reservations(&row, depth))), [7, 8]);
+        assert_eq!(planned("4 0 1 1 0 1 0 1 8 17 1 0"), "R 7 0\n");
+        assert!(planned("4 0 1 1 0 1 0 1 7 17 1 0").starts_with("KIND"));
+        assert_eq!(planned("14 3 6 2 0 1 6 1 1 12 1 0"), "R 7 5\n");
     }
 
     /// P4 to P10 and the examples of the table of refusals, checks 4 to 7.

@@ -4,6 +4,11 @@ use super::*;
 
 /// So many draws are made for a planned tree of the wished shape before the roomiest one is taken.
 const TRIES: usize = 30;
+/// So many draws are made for a tree whose slots come out even before a fixed one is taken.
+const EVEN_TRIES: usize = 300;
+/// The largest SO at which a router with reservations may reserve a slot less than one without, for its longer beacon
+/// (request E2).
+const LONG_BEACON_ORDER: u64 = 3;
 
 /// Values that are planned.
 pub fn planned(rng: &mut Rng) -> Values {
@@ -19,13 +24,48 @@ pub fn planned(rng: &mut Rng) -> Values {
 
 /// Values whose slots just suffice, or fall short for the first time, as RATE or as M grows.
 pub fn at_slot_edge(rng: &mut Rng) -> Values {
-    let mut values = slow(rng);
+    let values = slow(rng);
     let over = rng.below(2);
+    at_edge(rng, values, over)
+}
+
+/// These values, which are planned, with the largest RATE or M with which they are, or with so much more.
+fn at_edge(rng: &mut Rng, mut values: Values, over: u64) -> Values {
     if rng.one_in(3) {
         let octets = 127.min(longest(&values) + over);
         set_octets(rng, &mut values, octets);
     } else {
         values[RATE] = 4095.min(fastest(&values) + over);
+    }
+    values
+}
+
+/// Values of which the fullest router uses just the slots that it may reserve, or one more, at an SO at which it may
+/// reserve a slot less than a router without reservations (request E2). More than half of them have no end nodes: a
+/// router at depth H then has no reservations, and so a slot more than those above it.
+pub fn at_beacon_edge(rng: &mut Rng) -> Values {
+    let (order, bare, over) = (rng.range(0, LONG_BEACON_ORDER), rng.one_in(2), rng.below(2));
+    for _ in 0..EVEN_TRIES {
+        let values = attempt_at(rng, order, bare);
+        if plans(&values) {
+            let values = at_edge(rng, values, over);
+            if settle(&values).is_ok_and(|settings| excess(&settings) == over as i64) {
+                return values;
+            }
+        }
+    }
+    [4, 0, 1, 1, 0, 1, 0, draw_burst(rng), 7 + over, 17, 1, 0]
+}
+
+/// A tree of any shape with this SO, and without end nodes where that is wished; RATE is 1. It keeps every condition
+/// but perhaps 6 and 7.
+fn attempt_at(rng: &mut Rng, order: u64, bare: bool) -> Values {
+    let (height, sink) = rng.pick(&plannable_shapes());
+    let mut values = attempt(rng, height, sink);
+    let lowest = MOST_ORDER.min(order + order_gap(height, values[NR]));
+    (values[BO], values[SO]) = (rng.range(lowest, MOST_ORDER), order);
+    if bare {
+        (values[NE], values[OWN]) = (0, 1);
     }
     values
 }
@@ -158,6 +198,25 @@ mod tests {
         let pairs = (0..=7).flat_map(|nr| (0..=7 - nr).map(move |ne| (nr, ne)));
         assert_eq!(routers.len(), pairs.map(|(_, ne)| if ne == 0 { 1 } else { 2 }).sum());
         assert_eq!(frames.len(), 2 * 122);
+    }
+
+    /// Both sides of the edge and nothing else, with and without end nodes, at every SO at which the longer beacon
+    /// counts; and seldom the tree that is fixed.
+    #[test]
+    fn both_sides_of_the_edge_of_longer_beacons() {
+        let mut rng = Rng::new(13);
+        let mut seen = BTreeSet::new();
+        let mut fixed = 0;
+        for _ in 0..5_000 {
+            let values = at_beacon_edge(&mut rng);
+            let excess = excess(&settle(&values).ok().unwrap());
+            assert_eq!(plans(&values), excess == 0);
+            seen.insert((values[SO], values[NE] == 0, excess));
+            fixed += u32::from(values[..SINK] == [4, 0, 1, 1, 0, 1] && values[HEAD] + values[DATA] == 18);
+        }
+        let expected = (0..=3).flat_map(|so| [(so, false, 0), (so, false, 1), (so, true, 0), (so, true, 1)]);
+        assert_eq!(seen, expected.collect());
+        assert!(fixed < 250, "{fixed}");
     }
 
     #[test]

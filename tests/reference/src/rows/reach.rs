@@ -3,8 +3,9 @@
 use crate::{Kind, Outcome};
 use std::collections::BTreeMap;
 
-/// The depths that can be the first with too few slots (condition 7). Found by `search` below, which goes through every
-/// tree, superframe order and load that document 01 allows. Depth 3 is never the first, and neither is one from 7 on.
+/// The depths that can be the first with too few slots (condition 7, with each router's own limit of request E2). Found
+/// by `search` below, which goes through every tree, superframe order and load that document 01 allows. Depth 3 is
+/// never the first, and neither is one from 7 on.
 const OVERFULL_DEPTHS: [u32; 6] = [0, 1, 2, 4, 5, 6];
 
 /// The shapes that some planned row has are those with SINK = 0, whatever H is, and those with 1 ≤ SINK ≤ H ≤ 8. Found

@@ -10,11 +10,8 @@ use Rattle.planner.proofs.Answers.{slots-broken, slots-kept, refused-an
 use Rattle.planner.proofs.lines.plan_links.Statement.{statement}
 use Rattle.planner.proofs.lines.plan_links.Tie as tie
 
-reservable-of-requires : tie.Need-reservable-of-requires
-reservable-of-requires c κs = search needs
-
 slots-fit-requires : tie.Need-slots-fit-requires
-slots-fit-requires c κs = let p = c .before .before .before .before .pre in (p .0, (c .reservable-of .ensures, (ap (λ (x : Link). x .reservation .slots) (p .1 .1 .0), (p .1 .1 .1 .0, p .1 .1 .1 .1 .0))))
+slots-fit-requires c κs = let p = c .before .before .before .pre in (p .0, (ap (λ (x : Link). x .reservation .slots) (p .1 .1 .0), (p .1 .1 .1 .0, p .1 .1 .1 .1 .0)))
 
 enum-known-verdict : tie.Need-enum-known-verdict
 enum-known-verdict c = search needs
@@ -24,7 +21,7 @@ refused-plan-requires c κs = search needs
 
 returns : tie.Need-returns
 returns c =
-    let a = c .before .before .before .before .before .before .before .before .before .args in
+    let a = c .before .before .before .before .before .before .before .before .args in
     let o = slots-broken (a .s) _ (sym (c .before .before .before .before .slots-fit .ensures) ∙ c .before .before .verdict .given .1) in
     (c .refused-plan .ensures ∙ refused-answer _ _ o, (refused-short _ _ (c .refused-plan .ensures), refused-put _ _ (a .out .now) o))
 
@@ -39,7 +36,7 @@ plus-requires c κs = search needs
 
 put-lines-requires : tie.Need-put-lines-requires
 put-lines-requires c κs =
-    let b = c .before .before .before .before .before .before .before .before .before .before in
+    let b = c .before .before .before .before .before .before .before .before .before in
     let p = b .pre in
     let sink : c .before .before .link-at .result ≡ linkIn (b .args .up .now) (b .args .s .sink) = c .before .before .link-at .ensures in
     let here = sink ∙ p .1 .1 .1 .0 .held (b .args .s .sink) (omega arith) (p .0 .checked .sinkDepth) in
@@ -51,7 +48,7 @@ same-length c = search needs
 
 returns-2 : tie.Need-returns-2
 returns-2 c =
-    let a = c .before .before .before .before .before .before .before .before .before .before .before .before .before .args in
+    let a = c .before .before .before .before .before .before .before .before .before .before .before .before .args in
     let o = slots-kept (a .s) (sym (c .before .before .before .before .before .before .before .before .slots-fit .ensures) ∙ c .before .before .before .before .before .before .enum-told .given .1) in
     let w = c .before .before .put-lines .ensures in
     (planned-answer _ (lines (a .s)) _ o refl (w .0), (w .1 .0, planned-put _ (lines (a .s)) (a .out .now) _ o (w .1 .1)))
@@ -60,7 +57,6 @@ pub plan-links-spec : {M : Type 1} → statement M
 plan-links-spec =
     tie.close
     (tie.spec
-    reservable-of-requires
     slots-fit-requires
     enum-known-verdict
     refused-plan-requires

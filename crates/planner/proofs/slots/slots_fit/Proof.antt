@@ -10,16 +10,16 @@ use Rattle.planner.proofs.slots.slots_fit.Statement.{statement}
 use Rattle.planner.proofs.slots.slots_fit.Tie as tie
 
 abbrev Inv-loop : tie.InvT-loop
-Inv-loop s l end up down i₀ i = (i ≤ suc (s .h)) × (verdict (usedFrom s (suc (s .h)) 0) ≡ verdict (usedFrom s (suc (s .h) - i) i))
+Inv-loop s end up down i₀ i = (i ≤ suc (s .h)) × (verdict (usedFrom s (suc (s .h)) 0) ≡ verdict (usedFrom s (suc (s .h) - i) i))
 
 abbrev μ-loop : tie.MeasureT-loop
-μ-loop s l end up down i₀ i = suc (s .h) - i
+μ-loop s end up down i₀ i = suc (s .h) - i
 
 loop-holds : tie.Need-loop-holds Inv-loop μ-loop
 loop-holds c = (omega arith, whole-depths (c .before .before .args .s))
 
 depth-fits-requires : tie.Need-depth-fits-requires Inv-loop μ-loop
-depth-fits-requires c κs = let p = c .before .before .before .before .before .pre in (p .0, (p .1 .0, (p .1 .1 .0, (p .1 .1 .1 .0, (p .1 .1 .1 .1, omega (arith, c .if1 .taken))))))
+depth-fits-requires c κs = let p = c .before .before .before .before .before .pre in (p .0, (p .1 .0, (p .1 .1 .0, (p .1 .1 .1, omega (arith, c .if1 .taken)))))
 
 enum-told : tie.Need-enum-told Inv-loop μ-loop
 enum-told c = search needs
