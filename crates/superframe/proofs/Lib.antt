@@ -1,5 +1,5 @@
 -- Laws about the definitions of specs/. The layers above cite these and unfold no definition of this crate. Assumes nothing.
--- BI, SD, S, the contention period, L
+-- BI, SD, S, the beacon, the contention period, L
 pub mod OrderLaws
 -- X
 pub mod ExchangeLaws

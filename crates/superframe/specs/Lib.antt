@@ -1,5 +1,5 @@
 -- What a reader must believe of time on the air, in document 01's order. Assumes nothing.
--- BI, SD, S, the contention period, L
+-- BI, SD, S, the beacon, the contention period, L
 pub mod Orders
 -- X
 pub mod Exchange

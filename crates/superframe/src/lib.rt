@@ -2,6 +2,6 @@
 //
 // No public function has a `requires`: each answers every argument, as an equation with a definition of specs/ says.
 // Where a number passes 64 bits, or an argument lies outside document 01's range, the contract names the answer.
-pub mod orders; // beacon interval, superframe, slot, contention period, reservable slots
+pub mod orders; // beacon interval, superframe, slot, beacon, contention period, reservable slots
 pub mod exchange; // how long the exchange of one frame lasts
 pub mod reservation; // frames in a reservation, slots for a rate, latency

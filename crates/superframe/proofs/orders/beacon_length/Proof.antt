@@ -1,5 +1,5 @@
 -- `superframe::orders::beacon_length` meets its contract. Assumes nothing.
-use mathlib.Core.Path.{_≡_, refl}
+use mathlib.Core.Path.{_≡_}
 use native.Mathlib.Omega.{arith}
 use Rattle.superframe.proofs.OrderLaws.{beacon-none, beacon-of}
 use borrow.Author.Needs.{needs}
