@@ -6,7 +6,7 @@ use native.Mathlib.Omega.{arith}
 use lib.ListN.{length, drop, length-append, length-drop}
 use lib.Seq.{take-append-seam}
 use Rattle.refusals.specs.declared.Refusal.{Refusal}
-use Rattle.refusals.specs.declared.Refusal.the-variants.{Names, Unreadable, TextAfter, OutOfRange, AtOdds, Reservations, Superframes, SlotsUsed, LentTooShort, InputTooLong}
+use Rattle.refusals.proofs.Numbers.{numbered}
 use Rattle.refusals.specs.Refusals.{numberOf}
 use Rattle.balanced.specs.Lines.{lines}
 use Rattle.balanced.specs.Outcome.{Outcome, Planned, Refused}
@@ -25,20 +25,6 @@ asked-first names row before h = by (namedOutcome names row) refl h where
   by : (o : Outcome) → namedOutcome names row ≡ o → told o .length ≤ length before → told (entryOutcome names row before) ≡ told o
   by (Planned p) e g = ap told (entry-planned names row p e before g)
   by (Refused r) e g = ap told (entry-refused names row before r e)
-
--- every refusal has a number
-numbered : {A : Type 0} (r : Refusal) → numberOf r ≡ 0 → A
-unfolding numberOf
-numbered Names e = absurd (omega arith)
-numbered (Unreadable column) e = absurd (omega arith)
-numbered (TextAfter column) e = absurd (omega arith)
-numbered (OutOfRange column value) e = absurd (omega arith)
-numbered (AtOdds conflict) e = absurd (omega arith)
-numbered (Reservations ne nr) e = absurd (omega arith)
-numbered (Superframes routers superframes) e = absurd (omega arith)
-numbered (SlotsUsed depth used reservable) e = absurd (omega arith)
-numbered LentTooShort e = absurd (omega arith)
-numbered InputTooLong e = absurd (omega arith)
 
 pub refusal-leaves : RefusalLeaves
 unfolding planRow told filled
@@ -59,14 +45,14 @@ unfolding planRow told filled
 lines-stand names row before = by (entryOutcome names row before) refl where
   by : (o : Outcome) → entryOutcome names row before ≡ o → IsPlanned (told o) → StandsIn (lines (spelledSettings row)) (told o) (filled before o)
   by (Planned p) e n = rw (entry-lines names row before p e) (sym (take-append-seam (text p) _))
-  by (Refused r) e n = numbered r n
+  by (Refused r) e n = absurd (omega (arith, n, numbered r))
 
 pub entry-promises : EntryPromises
 unfolding planRow told filled
 entry-promises names row before = by (entryOutcome names row before) refl where
   by : (o : Outcome) → entryOutcome names row before ≡ o → Promised row (told o) (filled before o)
   by (Planned p) e n q w = let same : q ≡ p = one-text-for-lines q p (w ∙ take-append-seam (text p) _) in rw same (entry-keeps names row before p e)
-  by (Refused r) e n q w = numbered r n
+  by (Refused r) e n q w = absurd (omega (arith, n, numbered r))
 
 -- the promise of a call, from what it left
 pub promised-left : (names row before : List ℕ) (r : Answer) (after : List ℕ) → left r after ≡ planRow names row before → Promised row r after

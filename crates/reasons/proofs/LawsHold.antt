@@ -9,16 +9,18 @@ use lib.Seq.{split-at}
 use borrow.Author.Tests.{ltb-true}
 use Rattle.decimal.specs.Ascii.{ascii}
 use Rattle.refusals.specs.declared.Refusal.{Refusal}
-use Rattle.refusals.specs.declared.Refusal.the-variants.{Names, Unreadable, TextAfter, OutOfRange, AtOdds, Reservations, Superframes, SlotsUsed, LentTooShort, InputTooLong}
+use Rattle.refusals.specs.declared.Refusal.the-variants.{Names, Unreadable, TextAfter, OutOfRange, AtOdds, Reservations, Superframes, SlotsUsed, LentTooShort, InputTooLong, InTree}
+use Rattle.refusals.specs.declared.TreeRefusal.{TreeRefusal}
+use Rattle.refusals.specs.declared.TreeRefusal.the-variants.{NodeNames, NodeLine, SinkNode, RouterReservations, RouterSlots}
 use Rattle.refusals.specs.declared.Conflict.{Conflict}
 use Rattle.refusals.specs.declared.Conflict.the-variants.{Orders, Routers, Sensors, SinkDepth, SinkBranches, FrameLength}
-use Rattle.refusals.specs.Refusals.{conflictPlace, numberOf, placeOf}
+use Rattle.refusals.specs.Refusals.{conflictPlace, treeNumber, treePlace, numberOf, placeOf}
 use Rattle.measure.specs.Measures.{slots}
 use Rattle.settings.specs.Columns.{table, columnAt}
 use Rattle.reasons.specs.declared.Match.{Match}
 use Rattle.reasons.specs.declared.Match.the-variants.{At, Nowhere}
 use Rattle.reasons.specs.declared.Reading.the-variants.{Reason}
-use Rattle.reasons.specs.Reasons.{named, columnName, ruleOf, phraseOf, valuesAtOdds, valuesOf, Part, partOf, partText, taken, filled, reason}
+use Rattle.reasons.specs.Reasons.{named, columnName, ruleOf, treePhrase, phraseOf, valuesAtOdds, treeValues, valuesOf, Part, partOf, partText, taken, filled, reason}
 use Rattle.reasons.specs.Reading.{matched, sorts, readAs, readFrom, readReason}
 use Rattle.reasons.specs.Laws.{ReadBack, ReasonOf, OnlyReasons, PrintableReasons}
 use Rattle.reasons.specs.Inner.{sortAt, sortOf}
@@ -75,6 +77,14 @@ module _ (t : List ℕ) (p : ℕ) where
   conflict-of (SinkBranches sink nr) i = record { refusal = AtOdds (SinkBranches (first (i .values)) (second (i .values))); itsLine = i .fills; itsNumber = refl; itsPlace = i .stays }
   conflict-of (FrameLength head payload) i = record { refusal = AtOdds (FrameLength (first (i .values)) (second (i .values))); itsLine = i .fills; itsNumber = refl; itsPlace = i .stays }
 
+  tree-of : (r : TreeRefusal) → Fills (treePlace r) p (form (InTree r)) t → ReasonOf t (treeNumber r) p
+  unfolding ascii treeNumber treePlace numberOf placeOf treePhrase phraseOf treeValues valuesOf partOf partText taken filled reason stood placed
+  tree-of NodeNames i = record { refusal = InTree NodeNames; itsLine = i .fills; itsNumber = refl; itsPlace = i .stays }
+  tree-of (NodeLine line) i = record { refusal = InTree (NodeLine p); itsLine = i .fills; itsNumber = refl; itsPlace = refl }
+  tree-of SinkNode i = record { refusal = InTree SinkNode; itsLine = i .fills; itsNumber = refl; itsPlace = i .stays }
+  tree-of (RouterReservations router reservations) i = record { refusal = InTree (RouterReservations p (first (i .values))); itsLine = i .fills; itsNumber = refl; itsPlace = refl }
+  tree-of (RouterSlots router used reservable) i = record { refusal = InTree (RouterSlots p (slots (first (i .values))) (slots (second (i .values)))); itsLine = i .fills; itsNumber = refl; itsPlace = refl }
+
   reason-of : (r : Refusal) → Fills (placeOf r) p (form r) t → ReasonOf t (numberOf r) p
   unfolding ascii numberOf placeOf phraseOf valuesOf partOf partText taken filled reason stood placed
   reason-of Names i = record { refusal = Names; itsLine = i .fills; itsNumber = refl; itsPlace = i .stays }
@@ -87,6 +97,7 @@ module _ (t : List ℕ) (p : ℕ) where
   reason-of (SlotsUsed depth used reservable) i = record { refusal = SlotsUsed p (slots (first (i .values))) (slots (second (i .values))); itsLine = i .fills; itsNumber = refl; itsPlace = refl }
   reason-of LentTooShort i = record { refusal = LentTooShort; itsLine = i .fills; itsNumber = refl; itsPlace = i .stays }
   reason-of InputTooLong i = record { refusal = InputTooLong; itsLine = i .fills; itsNumber = refl; itsPlace = i .stays }
+  reason-of (InTree refusal) i = tree-of refusal i
 
   only-from : (rs : List Refusal) (n : ℕ) → readFrom rs t ≡ Reason n p → ReasonOf t n p
   unfolding readFrom readAs

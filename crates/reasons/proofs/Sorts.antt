@@ -11,16 +11,18 @@ use lib.Seq.{drop-cons}
 use borrow.Author.Tests.{ltb-true, leb-true}
 use Rattle.decimal.specs.Ascii.{ascii}
 use Rattle.refusals.specs.declared.Refusal.{Refusal}
-use Rattle.refusals.specs.declared.Refusal.the-variants.{Names, Unreadable, TextAfter, OutOfRange, AtOdds, Reservations, Superframes, SlotsUsed, LentTooShort, InputTooLong}
+use Rattle.refusals.specs.declared.Refusal.the-variants.{Names, Unreadable, TextAfter, OutOfRange, AtOdds, Reservations, Superframes, SlotsUsed, LentTooShort, InputTooLong, InTree}
+use Rattle.refusals.specs.declared.TreeRefusal.{TreeRefusal}
+use Rattle.refusals.specs.declared.TreeRefusal.the-variants.{NodeNames, NodeLine, SinkNode, RouterReservations, RouterSlots}
 use Rattle.refusals.specs.declared.Conflict.{Conflict}
 use Rattle.refusals.specs.declared.Conflict.the-variants.{Orders, Routers, Sensors, SinkDepth, SinkBranches, FrameLength}
-use Rattle.refusals.specs.Refusals.{conflictPlace, numberOf, placeOf}
+use Rattle.refusals.specs.Refusals.{conflictPlace, treeNumber, treePlace, numberOf, placeOf}
 use Rattle.settings.specs.Columns.{table, columnAt}
 use Rattle.reasons.specs.declared.Match.the-variants.{At, Nowhere}
 use Rattle.reasons.specs.declared.Reading.the-variants.{Reason, NoReason}
-use Rattle.reasons.specs.Reasons.{named, columnName, ruleOf, phraseOf, valuesAtOdds, valuesOf, Part, partOf, partText, taken, filled, reason}
+use Rattle.reasons.specs.Reasons.{named, columnName, ruleOf, treePhrase, phraseOf, valuesAtOdds, treeValues, valuesOf, Part, partOf, partText, taken, filled, reason}
 use Rattle.reasons.specs.Reading.{wordByte, matched, sorts, readAs, readFrom}
-use Rattle.reasons.specs.Inner.{sortAt, conflictSort, sortOf, twoValues, phraseAt, most}
+use Rattle.reasons.specs.Inner.{sortAt, conflictSort, treeSort, sortOf, twoValues, phraseAt, most}
 use Rattle.reasons.proofs.Printing.{prints}
 use Rattle.reasons.proofs.Gaps.{endsGap, ended, sound}
 use Rattle.reasons.proofs.PhrasesApart.{code, isByte, apart, stood, placed}
@@ -80,7 +82,7 @@ wanted r = record {
 }
 
 conflict-sorted : (c : Conflict) → found (AtOdds c) ≡ wanted (AtOdds c)
-unfolding ascii table columnAt conflictPlace numberOf placeOf named columnName ruleOf phraseOf valuesAtOdds valuesOf partOf partText taken filled wordByte sorts sortAt conflictSort sortOf endsGap ended sound stood placed code isByte apart allApart isMark unmarked once prints most
+unfolding ascii table columnAt conflictPlace treeNumber treePlace numberOf placeOf named columnName ruleOf treePhrase phraseOf valuesAtOdds treeValues valuesOf partOf partText taken filled wordByte sorts sortAt conflictSort treeSort sortOf endsGap ended sound stood placed code isByte apart allApart isMark unmarked once prints most
 conflict-sorted (Orders so bo) = refl
 conflict-sorted (Routers nr h) = refl
 conflict-sorted (Sensors ne own) = refl
@@ -88,8 +90,16 @@ conflict-sorted (SinkDepth sink h) = refl
 conflict-sorted (SinkBranches sink nr) = refl
 conflict-sorted (FrameLength head payload) = refl
 
+tree-sorted : (r : TreeRefusal) → found (InTree r) ≡ wanted (InTree r)
+unfolding ascii table columnAt conflictPlace treeNumber treePlace numberOf placeOf named columnName ruleOf treePhrase phraseOf valuesAtOdds treeValues valuesOf partOf partText taken filled wordByte sorts sortAt conflictSort treeSort sortOf endsGap ended sound stood placed code isByte apart allApart isMark unmarked once prints most
+tree-sorted NodeNames = refl
+tree-sorted (NodeLine line) = refl
+tree-sorted SinkNode = refl
+tree-sorted (RouterReservations router reservations) = refl
+tree-sorted (RouterSlots router used reservable) = refl
+
 pub sorted : (r : Refusal) → found r ≡ wanted r
-unfolding ascii table columnAt conflictPlace numberOf placeOf named columnName ruleOf phraseOf valuesAtOdds valuesOf partOf partText taken filled wordByte sorts sortAt conflictSort sortOf endsGap ended sound stood placed code isByte apart allApart isMark unmarked once prints most
+unfolding ascii table columnAt conflictPlace treeNumber treePlace numberOf placeOf named columnName ruleOf treePhrase phraseOf valuesAtOdds treeValues valuesOf partOf partText taken filled wordByte sorts sortAt conflictSort treeSort sortOf endsGap ended sound stood placed code isByte apart allApart isMark unmarked once prints most
 sorted Names = refl
 sorted (Unreadable column) = refl
 sorted (TextAfter column) = refl
@@ -100,13 +110,14 @@ sorted (Superframes routers superframes) = refl
 sorted (SlotsUsed depth used reservable) = refl
 sorted LentTooShort = refl
 sorted InputTooLong = refl
+sorted (InTree refusal) = tree-sorted refusal
 
 -- ---- a refusal's line, as code makes it
 
 module _ (r : Refusal) where
-  pub sort-inside : sortOf r < 15
+  pub sort-inside : sortOf r < 20
   unfolding sorts
-  sort-inside = ltb-true (sortOf r) 15 (ap (λ (x : Facts). x .inside) (sorted r))
+  sort-inside = ltb-true (sortOf r) 20 (ap (λ (x : Facts). x .inside) (sorted r))
 
   pub phrase-of-sort : phraseAt (sortOf r) ≡ phraseOf r
   unfolding phraseAt
@@ -126,17 +137,17 @@ in-range (x ∷ xs) zero d e h = refl
 in-range (x ∷ xs) (suc k) d e h = in-range xs k d e (omega arith)
 
 -- the numbers of the sorts, and the places of those whose phrase does not say it
-pub number-at : (k : ℕ) → k < 15 → getD (map numberOf sorts) k 0 ≡ numberOf (sortAt k)
-unfolding numberOf sortAt sorts
+pub number-at : (k : ℕ) → k < 20 → getD (map numberOf sorts) k 0 ≡ numberOf (sortAt k)
+unfolding treeNumber numberOf sortAt sorts
 number-at k h = in-range (map numberOf sorts) k 0 1 h ∙ List·getD-map numberOf sorts k Names
 
-pub place-at : (k : ℕ) → k < 15 → getD (map placeOf sorts) k 0 ≡ placeOf (sortAt k)
-unfolding placeOf sortAt
+pub place-at : (k : ℕ) → k < 20 → getD (map placeOf sorts) k 0 ≡ placeOf (sortAt k)
+unfolding treePlace placeOf sortAt
 place-at k h = List·getD-map placeOf sorts k Names
 
 -- ---- the sorts one by one, as code tries them
 
-module _ (line : List ℕ) (k : ℕ) (h : k < 15) where
+module _ (line : List ℕ) (k : ℕ) (h : k < 20) where
   sort-next : drop k sorts ≡ sortAt k ∷ drop (suc k) sorts
   unfolding sorts sortAt
   sort-next = drop-cons sorts k Names h
@@ -153,6 +164,6 @@ module _ (line : List ℕ) (k : ℕ) (h : k < 15) where
   sort-later e = rw (sort-next, e, add-one)
 
 -- none is left
-pub sort-none : (line : List ℕ) (k : ℕ) → 15 ≤ k → readFrom (drop k sorts) line ≡ NoReason
+pub sort-none : (line : List ℕ) (k : ℕ) → 20 ≤ k → readFrom (drop k sorts) line ≡ NoReason
 unfolding readFrom sorts
 sort-none line k h = rw (drop-of-length-le sorts h)

@@ -6,7 +6,8 @@ use Prim.Native.Nat.{ℕ}
 use Prim.Native.String.{String}
 use Rattle.decimal.specs.Ascii.{ascii}
 use Rattle.refusals.specs.declared.Refusal.{Refusal}
-use Rattle.refusals.specs.declared.Refusal.the-variants.{Names, Unreadable, TextAfter, OutOfRange, AtOdds, Reservations, Superframes, SlotsUsed, LentTooShort, InputTooLong}
+use Rattle.refusals.specs.declared.Refusal.the-variants.{Names, Unreadable, TextAfter, OutOfRange, AtOdds, Reservations, Superframes, SlotsUsed, LentTooShort, InputTooLong, InTree}
+use Rattle.refusals.specs.declared.TreeRefusal.the-variants.{NodeNames, NodeLine, SinkNode, RouterReservations, RouterSlots}
 use Rattle.refusals.specs.declared.Conflict.the-variants.{Orders, Routers, Sensors, SinkDepth, SinkBranches, FrameLength}
 use Rattle.measure.specs.Measures.{slots}
 use Rattle.reasons.specs.declared.Reading.{Reading}
@@ -40,6 +41,11 @@ examples =
     ∷ example (SlotsUsed 12 (slots 10) (slots 8)) "The slots used at depth 12 are more than can be reserved: 10 used and 8 reservable." 7 12
     ∷ example LentTooShort "The lent buffer is shorter than the text to be written." 8 0
     ∷ example InputTooLong "The input is over 65,536 bytes." 9 0
+    ∷ example (InTree NodeNames) "The line of names of the node list differs or is missing." 10 0
+    ∷ example (InTree (NodeLine 255)) "Line 255 of the node list breaks a rule or is missing." 10 255
+    ∷ example (InTree SinkNode) "The sink is no router of the tree." 10 0
+    ∷ example (InTree (RouterReservations 17 8)) "Router 17 would have more than 7 reservations: it would have 8." 5 17
+    ∷ example (InTree (RouterSlots 254 (slots 8) (slots 7))) "The slots used at router 254 are more than can be reserved: 8 used and 7 reservable." 7 254
     -- a column without a name, and the largest numbers of 64 bits
     ∷ example (OutOfRange 13 18446744073709551615) "The value of 13 is outside its range: it is 18446744073709551615." 3 13
     ∷ []
@@ -64,6 +70,8 @@ others =
     ∷ "The value of BURST is outside its range: it is 00."
     ∷ "The value of BURST is outside its range: it is ."
     ∷ "Values are at odds at BO, which may not be above BO: SO is 8 and BO is 4."
+    ∷ "The slots used at router H are more than can be reserved: 10 used and 8 reservable."
+    ∷ "Line 01 of the node list breaks a rule or is missing."
     ∷ "The slots used at depth 4294967296 are more than can be reserved: 10 used and 8 reservable."
     ∷ []
 

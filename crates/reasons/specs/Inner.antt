@@ -4,7 +4,9 @@ use Prim.Native.Nat.{ℕ, _+_}
 use mathlib.Core.List.{List, [], _∷_}
 use lib.ListN.{getD}
 use Rattle.refusals.specs.declared.Refusal.{Refusal}
-use Rattle.refusals.specs.declared.Refusal.the-variants.{Names, Unreadable, TextAfter, OutOfRange, AtOdds, Reservations, Superframes, SlotsUsed, LentTooShort, InputTooLong}
+use Rattle.refusals.specs.declared.Refusal.the-variants.{Names, Unreadable, TextAfter, OutOfRange, AtOdds, Reservations, Superframes, SlotsUsed, LentTooShort, InputTooLong, InTree}
+use Rattle.refusals.specs.declared.TreeRefusal.{TreeRefusal}
+use Rattle.refusals.specs.declared.TreeRefusal.the-variants.{NodeNames, NodeLine, SinkNode, RouterReservations, RouterSlots}
 use Rattle.refusals.specs.declared.Conflict.{Conflict}
 use Rattle.refusals.specs.declared.Conflict.the-variants.{Orders, Routers, Sensors, SinkDepth, SinkBranches, FrameLength}
 use Rattle.reasons.specs.declared.phrases.Wording.{Wording}
@@ -27,6 +29,13 @@ conflictSort (SinkDepth sink h) = 7
 conflictSort (SinkBranches sink nr) = 8
 conflictSort (FrameLength head payload) = 9
 
+unfoldable pub treeSort : TreeRefusal → ℕ
+treeSort NodeNames = 15
+treeSort (NodeLine line) = 16
+treeSort SinkNode = 17
+treeSort (RouterReservations router reservations) = 18
+treeSort (RouterSlots router used reservable) = 19
+
 unfoldable pub sortOf : Refusal → ℕ
 sortOf Names = 0
 sortOf (Unreadable column) = 1
@@ -38,6 +47,7 @@ sortOf (Superframes routers superframes) = 11
 sortOf (SlotsUsed depth used reservable) = 12
 sortOf LentTooShort = 13
 sortOf InputTooLong = 14
+sortOf (InTree refusal) = treeSort refusal
 
 -- how a refusal is worded: its sort, and the values concerned, as two numbers of which some phrases take none or one
 unfoldable pub wording : Refusal → Wording

@@ -8,7 +8,8 @@ use Rattle.decimal.specs.Ascii.{ascii}
 use Rattle.decimal.specs.Number.{digit, digits, zeroLed, spelled}
 use Rattle.lines.specs.Text.{same}
 use Rattle.refusals.specs.declared.Refusal.{Refusal}
-use Rattle.refusals.specs.declared.Refusal.the-variants.{Names, Unreadable, TextAfter, OutOfRange, AtOdds, Reservations, Superframes, SlotsUsed, LentTooShort, InputTooLong}
+use Rattle.refusals.specs.declared.Refusal.the-variants.{Names, Unreadable, TextAfter, OutOfRange, AtOdds, Reservations, Superframes, SlotsUsed, LentTooShort, InputTooLong, InTree}
+use Rattle.refusals.specs.declared.TreeRefusal.the-variants.{NodeNames, NodeLine, SinkNode, RouterReservations, RouterSlots}
 use Rattle.refusals.specs.declared.Conflict.the-variants.{Orders, Routers, Sensors, SinkDepth, SinkBranches, FrameLength}
 use Rattle.refusals.specs.Refusals.{numberOf, placeOf}
 use Rattle.measure.specs.Measures.{slots}
@@ -93,6 +94,11 @@ sorts =
     ∷ SlotsUsed 0 (slots 0) (slots 0)
     ∷ LentTooShort
     ∷ InputTooLong
+    ∷ InTree NodeNames
+    ∷ InTree (NodeLine 0)
+    ∷ InTree SinkNode
+    ∷ InTree (RouterReservations 0 0)
+    ∷ InTree (RouterSlots 0 (slots 0) (slots 0))
     ∷ []
 
 -- a place that was read for a refusal of this sort, or what other sorts read

@@ -9,7 +9,9 @@ use lib.ListN.{length, getD, drop}
 use Rattle.decimal.specs.Ascii.{ascii}
 use Rattle.decimal.specs.Decimal.{decimal}
 use Rattle.refusals.specs.declared.Refusal.{Refusal}
-use Rattle.refusals.specs.declared.Refusal.the-variants.{Names, Unreadable, TextAfter, OutOfRange, AtOdds, Reservations, Superframes, SlotsUsed, LentTooShort, InputTooLong}
+use Rattle.refusals.specs.declared.Refusal.the-variants.{Names, Unreadable, TextAfter, OutOfRange, AtOdds, Reservations, Superframes, SlotsUsed, LentTooShort, InputTooLong, InTree}
+use Rattle.refusals.specs.declared.TreeRefusal.{TreeRefusal}
+use Rattle.refusals.specs.declared.TreeRefusal.the-variants.{NodeNames, NodeLine, SinkNode, RouterReservations, RouterSlots}
 use Rattle.refusals.specs.declared.Conflict.{Conflict}
 use Rattle.refusals.specs.declared.Conflict.the-variants.{Orders, Routers, Sensors, SinkDepth, SinkBranches, FrameLength}
 use Rattle.refusals.specs.declared.Verdict.{Verdict}
@@ -34,6 +36,14 @@ ruleOf (SinkDepth sink h) = ", which may not be above H: SINK is # and H is #."
 ruleOf (SinkBranches sink nr) = ", which is 0 where NR is below 2: SINK is # and NR is #."
 ruleOf (FrameLength head payload) = ", which with HEAD may not be above 127: HEAD is # and DATA is #."
 
+-- the phrases of a surveyed tree's refusals: "Later refusals get such lines too, with their places as numbers."
+unfoldable pub treePhrase : TreeRefusal → String
+treePhrase NodeNames = "The line of names of the node list differs or is missing."
+treePhrase (NodeLine line) = "Line % of the node list breaks a rule or is missing."
+treePhrase SinkNode = "The sink is no router of the tree."
+treePhrase (RouterReservations router reservations) = "Router % would have more than 7 reservations: it would have #."
+treePhrase (RouterSlots router used reservable) = "The slots used at router % are more than can be reserved: # used and # reservable."
+
 -- the table: the phrase of each number. In a phrase `@` stands for the place as a column's name, `%` for the place as a number, and
 -- each `#` for the next of the values concerned.
 unfoldable pub phraseOf : Refusal → List ℕ
@@ -47,6 +57,7 @@ phraseOf (Superframes routers superframes) = ascii "There are more routers than 
 phraseOf (SlotsUsed depth used reservable) = ascii "The slots used at depth % are more than can be reserved: # used and # reservable."
 phraseOf LentTooShort = ascii "The lent buffer is shorter than the text to be written."
 phraseOf InputTooLong = ascii "The input is over 65,536 bytes."
+phraseOf (InTree refusal) = ascii (treePhrase refusal)
 
 -- the values concerned: "in 3 the column's, in 4 to 7 those compared, else none", as the condition that was broken compared them
 unfoldable pub valuesAtOdds : Conflict → List ℕ
@@ -56,6 +67,13 @@ valuesAtOdds (Sensors ne own) = ne ∷ own ∷ []
 valuesAtOdds (SinkDepth sink h) = sink ∷ h ∷ []
 valuesAtOdds (SinkBranches sink nr) = sink ∷ nr ∷ []
 valuesAtOdds (FrameLength head payload) = head ∷ payload ∷ []
+
+unfoldable pub treeValues : TreeRefusal → List ℕ
+treeValues NodeNames = []
+treeValues (NodeLine line) = []
+treeValues SinkNode = []
+treeValues (RouterReservations router reservations) = reservations ∷ []
+treeValues (RouterSlots router used reservable) = used .0 ∷ reservable .0 ∷ []
 
 unfoldable pub valuesOf : Refusal → List ℕ
 valuesOf Names = []
@@ -68,6 +86,7 @@ valuesOf (Superframes routers superframes) = routers ∷ superframes ∷ []
 valuesOf (SlotsUsed depth used reservable) = used .0 ∷ reservable .0 ∷ []
 valuesOf LentTooShort = []
 valuesOf InputTooLong = []
+valuesOf (InTree refusal) = treeValues refusal
 
 -- the parts of a phrase: bytes, and gaps for the place as a column's name, for the place as a number, and for a value
 pub data Part : Type 0 where

@@ -3,12 +3,13 @@ ghost use mathlib.Core.Path.{_≡_};
 ghost use Prim.Native.Nat.{_≤_, _<_};
 ghost use lib.ListN.{length};
 ghost use lib.Seq.{sets};
-ghost use Rattle.refusals.specs.declared.Refusal.the-variants.{AtOdds};
+ghost use Rattle.refusals.specs.declared.Refusal.the-variants.{AtOdds, InTree};
 ghost use Rattle.refusals.specs.Refusals.{numberOf, placeOf};
 ghost use Rattle.reasons.specs.Inner.{sortAt, phraseAt, wording};
 use buffer::put_bytes;
 use refusals::Conflict;
 use refusals::Refusal;
+use refusals::TreeRefusal;
 
 // How a refusal is worded: the position of its sort in the table, and the values concerned, of which a phrase takes none, one or both.
 pub struct Wording {
@@ -18,13 +19,34 @@ pub struct Wording {
 }
 
 // The sorts' numbers, and their places where the phrase does not say it.
-const NUMBERS: [u32; 15] = [1, 2, 2, 3, 4, 4, 4, 4, 4, 4, 5, 6, 7, 8, 9];
+const NUMBERS: [u32; 20] = [
+    1,
+    2,
+    2,
+    3,
+    4,
+    4,
+    4,
+    4,
+    4,
+    4,
+    5,
+    6,
+    7,
+    8,
+    9,
+    10,
+    10,
+    10,
+    5,
+    7,
+];
 
-const PLACES: [u32; 15] = [0, 0, 0, 0, 2, 4, 5, 7, 7, 11, 0, 0, 0, 0, 0];
+const PLACES: [u32; 20] = [0, 0, 0, 0, 2, 4, 5, 7, 7, 11, 0, 0, 0, 0, 0, 0, 0, 0, 0, 0];
 
 // Puts the phrase of a sort, and answers its length.
 pub(crate) fn put_phrase(out: &mut [u8], sort: usize) -> usize
-    requires { ⌜ sort < 15 ⌝ }
+    requires { ⌜ sort < 20 ⌝ }
     ensures { λ r. ⌜ r ≡ length (phraseAt sort) ⌝ }
     ensures { λ r. ⌜ r ≤ 128 ⌝ }
     ensures { λ _. ⌜ now (out .exit) ≡ sets (now (out .entry)) 0 (phraseAt sort) ⌝ }
@@ -35,7 +57,10 @@ pub(crate) fn put_phrase(out: &mut [u8], sort: usize) -> usize
     if sort < 10 {
         return put_odds_phrase(out, sort);
     }
-    put_plan_phrase(out, sort)
+    if sort < 15 {
+        return put_plan_phrase(out, sort);
+    }
+    put_tree_phrase(out, sort)
 }
 
 // Numbers 1 to 3.
@@ -150,9 +175,48 @@ fn put_plan_phrase(out: &mut [u8], sort: usize) -> usize
     put_bytes(out, 0, b"The input is over 65,536 bytes.")
 }
 
+// A surveyed tree's: numbers 10, 5 and 7.
+fn put_tree_phrase(out: &mut [u8], sort: usize) -> usize
+    requires { ⌜ 15 ≤ sort ⌝ }
+    requires { ⌜ sort < 20 ⌝ }
+    ensures { λ r. ⌜ r ≡ length (phraseAt sort) ⌝ }
+    ensures { λ r. ⌜ r ≤ 128 ⌝ }
+    ensures { λ _. ⌜ now (out .exit) ≡ sets (now (out .entry)) 0 (phraseAt sort) ⌝ }
+{
+    if sort < 16 {
+        return put_bytes(
+            out,
+            0,
+            b"The line of names of the node list differs or is missing.",
+        );
+    }
+    if sort < 17 {
+        return put_bytes(
+            out,
+            0,
+            b"Line % of the node list breaks a rule or is missing.",
+        );
+    }
+    if sort < 18 {
+        return put_bytes(out, 0, b"The sink is no router of the tree.");
+    }
+    if sort < 19 {
+        return put_bytes(
+            out,
+            0,
+            b"Router % would have more than 7 reservations: it would have #.",
+        );
+    }
+    put_bytes(
+        out,
+        0,
+        b"The slots used at router % are more than can be reserved: # used and # reservable.",
+    )
+}
+
 // The number of a sort.
 pub(crate) fn sort_number(sort: usize) -> u32
-    requires { ⌜ sort < 15 ⌝ }
+    requires { ⌜ sort < 20 ⌝ }
     ensures { λ r. ⌜ r ≡ numberOf (sortAt sort) ⌝ }
 {
     NUMBERS[sort]
@@ -160,7 +224,7 @@ pub(crate) fn sort_number(sort: usize) -> u32
 
 // The place of a sort, where its phrase does not say it.
 pub(crate) fn sort_place(sort: usize) -> u32
-    requires { ⌜ sort < 15 ⌝ }
+    requires { ⌜ sort < 20 ⌝ }
     ensures { λ r. ⌜ r ≡ placeOf (sortAt sort) ⌝ }
 {
     PLACES[sort]
@@ -188,6 +252,7 @@ pub(crate) fn wording_of(refusal: Refusal) -> Wording
         } => worded(12, used.0, reservable.0),
         Refusal::LentTooShort => worded(13, 0, 0),
         Refusal::InputTooLong => worded(14, 0, 0),
+        Refusal::InTree(refusal) => tree_wording(refusal),
     }
 }
 
@@ -202,6 +267,26 @@ fn conflict_wording(conflict: Conflict) -> Wording
         Conflict::SinkDepth { sink, h } => worded(7, sink, h),
         Conflict::SinkBranches { sink, nr } => worded(8, sink, nr),
         Conflict::FrameLength { head, payload } => worded(9, head, payload),
+    }
+}
+
+// How a surveyed tree's refusal is worded.
+fn tree_wording(refusal: TreeRefusal) -> Wording
+    ensures { λ r. ⌜ r ≡ wording (InTree refusal) ⌝ }
+{
+    match refusal {
+        TreeRefusal::NodeNames => worded(15, 0, 0),
+        TreeRefusal::NodeLine { line: _ } => worded(16, 0, 0),
+        TreeRefusal::SinkNode => worded(17, 0, 0),
+        TreeRefusal::RouterReservations {
+            router: _,
+            reservations,
+        } => worded(18, reservations, 0),
+        TreeRefusal::RouterSlots {
+            router: _,
+            used,
+            reservable,
+        } => worded(19, used.0, reservable.0),
     }
 }
 

@@ -5,3 +5,5 @@ pub mod Answering
 pub mod Unbroken
 -- the examples of specs/Examples
 pub mod ExamplesHold
+-- every refusal has a number
+pub mod Numbers

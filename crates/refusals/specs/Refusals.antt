@@ -1,7 +1,9 @@
--- Number and place of each refusal (document 01, the table of 'Rows of settings'). Assumes nothing: these are definitions.
+-- Number and place of each refusal (document 01, the table of 'Rows of settings'; document 02, E3). Assumes nothing: these are definitions.
 use Prim.Native.Nat.{ℕ}
 use Rattle.refusals.specs.declared.Refusal.{Refusal}
-use Rattle.refusals.specs.declared.Refusal.the-variants.{Names, Unreadable, TextAfter, OutOfRange, AtOdds, Reservations, Superframes, SlotsUsed, LentTooShort, InputTooLong}
+use Rattle.refusals.specs.declared.Refusal.the-variants.{Names, Unreadable, TextAfter, OutOfRange, AtOdds, Reservations, Superframes, SlotsUsed, LentTooShort, InputTooLong, InTree}
+use Rattle.refusals.specs.declared.TreeRefusal.{TreeRefusal}
+use Rattle.refusals.specs.declared.TreeRefusal.the-variants.{NodeNames, NodeLine, SinkNode, RouterReservations, RouterSlots}
 use Rattle.refusals.specs.declared.Conflict.{Conflict}
 use Rattle.refusals.specs.declared.Conflict.the-variants.{Orders, Routers, Sensors, SinkDepth, SinkBranches, FrameLength}
 
@@ -15,6 +17,22 @@ conflictPlace (SinkDepth sink h) = 7
 conflictPlace (SinkBranches sink nr) = 7
 conflictPlace (FrameLength head payload) = 11
 
+-- E3: "Refused: 10, a node line, the sink or the text breaks a rule here, place its line (node 1's is 1, also if missing) or 0 for names and
+-- sink"; "router by router from the lowest number, 5 and 7 with that number as place"
+unfoldable pub treeNumber : TreeRefusal → ℕ
+treeNumber NodeNames = 10
+treeNumber (NodeLine line) = 10
+treeNumber SinkNode = 10
+treeNumber (RouterReservations router reservations) = 5
+treeNumber (RouterSlots router used reservable) = 7
+
+unfoldable pub treePlace : TreeRefusal → ℕ
+treePlace NodeNames = 0
+treePlace (NodeLine line) = line
+treePlace SinkNode = 0
+treePlace (RouterReservations router reservations) = router
+treePlace (RouterSlots router used reservable) = router
+
 -- the number of a refusal
 unfoldable pub numberOf : Refusal → ℕ
 numberOf Names = 1
@@ -27,6 +45,7 @@ numberOf (Superframes routers superframes) = 6
 numberOf (SlotsUsed depth used reservable) = 7
 numberOf LentTooShort = 8
 numberOf InputTooLong = 9
+numberOf (InTree refusal) = treeNumber refusal
 
 -- the place of a refusal: 0, "its column, 13 for text after", "its column", "as given", 0, 0, "first such depth", 0, 0
 unfoldable pub placeOf : Refusal → ℕ
@@ -40,3 +59,4 @@ placeOf (Superframes routers superframes) = 0
 placeOf (SlotsUsed depth used reservable) = depth
 placeOf LentTooShort = 0
 placeOf InputTooLong = 0
+placeOf (InTree refusal) = treePlace refusal

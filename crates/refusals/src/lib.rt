@@ -1,8 +1,9 @@
-// Document 01's table of refusals ('Rows of settings'), 1 to 9: every reason for which something is refused, in one place.
+// Document 01's table of refusals ('Rows of settings'), 1 to 9, and those of surveyed trees (document 02, E3): every reason for which
+// something is refused, in one place.
 //
 // No public function has a `requires`: each answers every argument, as an equation with a definition of specs/ says.
 ghost use mathlib.Core.Path.{_≡_};
-ghost use Rattle.refusals.specs.Refusals.{numberOf, placeOf, conflictPlace};
+ghost use Rattle.refusals.specs.Refusals.{numberOf, placeOf, conflictPlace, treeNumber, treePlace};
 use measure::Slots;
 
 // Why something is refused, with the values concerned. Columns count from 1.
@@ -44,6 +45,8 @@ pub enum Refusal {
     LentTooShort,
     // 9: a program's input is over 65,536 bytes. In programs only, where it comes before all others.
     InputTooLong,
+    // 10, and 5 and 7 router by router: a surveyed tree.
+    InTree(TreeRefusal),
 }
 
 // Which values are at odds with each other, and what they are.
@@ -62,8 +65,31 @@ pub enum Conflict {
     FrameLength { head: u64, payload: u64 },
 }
 
+// Why a surveyed tree is refused, with the values concerned.
+pub enum TreeRefusal {
+    // 10: the line of names of the node list differs or is missing.
+    NodeNames,
+    // 10: a line of the node list breaks a rule, or is missing. Node 1's is line 1.
+    NodeLine {
+        line: u32,
+    },
+    // 10: the sink is no router of the tree.
+    SinkNode,
+    // 5: more than 7 reservations in the superframe of this router.
+    RouterReservations {
+        router: u32,
+        reservations: u64,
+    },
+    // 7: the slots used in the superframe of this router exceed L, its reservable ones.
+    RouterSlots {
+        router: u32,
+        used: Slots,
+        reservable: Slots,
+    },
+}
+
 impl Refusal {
-    // Document 01's number.
+    // The number that the papers give it.
     pub fn number(self) -> u32
         ensures { λ r. ⌜ r ≡ numberOf self ⌝ }
     {
@@ -88,10 +114,11 @@ impl Refusal {
             } => 7,
             Refusal::LentTooShort => 8,
             Refusal::InputTooLong => 9,
+            Refusal::InTree(refusal) => refusal.number(),
         }
     }
 
-    // Document 01's place.
+    // The place that they give it.
     pub fn place(self) -> u32
         ensures { λ r. ⌜ r ≡ placeOf self ⌝ }
     {
@@ -113,6 +140,7 @@ impl Refusal {
             } => depth,
             Refusal::LentTooShort => 0,
             Refusal::InputTooLong => 0,
+            Refusal::InTree(refusal) => refusal.place(),
         }
     }
 }
@@ -132,6 +160,48 @@ impl Conflict {
                 head: _,
                 payload: _,
             } => 11,
+        }
+    }
+}
+
+impl TreeRefusal {
+    // Document 02's number.
+    pub fn number(self) -> u32
+        ensures { λ r. ⌜ r ≡ treeNumber self ⌝ }
+    {
+        match self {
+            TreeRefusal::NodeNames => 10,
+            TreeRefusal::NodeLine { line: _ } => 10,
+            TreeRefusal::SinkNode => 10,
+            TreeRefusal::RouterReservations {
+                router: _,
+                reservations: _,
+            } => 5,
+            TreeRefusal::RouterSlots {
+                router: _,
+                used: _,
+                reservable: _,
+            } => 7,
+        }
+    }
+
+    // Document 02's place: 0, the line or the router.
+    pub fn place(self) -> u32
+        ensures { λ r. ⌜ r ≡ treePlace self ⌝ }
+    {
+        match self {
+            TreeRefusal::NodeNames => 0,
+            TreeRefusal::NodeLine { line } => line,
+            TreeRefusal::SinkNode => 0,
+            TreeRefusal::RouterReservations {
+                router,
+                reservations: _,
+            } => router,
+            TreeRefusal::RouterSlots {
+                router,
+                used: _,
+                reservable: _,
+            } => router,
         }
     }
 }

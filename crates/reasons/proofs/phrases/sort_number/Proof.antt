@@ -1,5 +1,5 @@
 -- `reasons::phrases::sort_number` meets its contract. Assumes nothing.
-use Rattle.refusals.specs.Refusals.{numberOf}
+use Rattle.refusals.specs.Refusals.{treeNumber, numberOf}
 use Rattle.reasons.specs.Reading.{sorts}
 use Rattle.reasons.proofs.Sorts.{number-at}
 use borrow.Author.Needs.{needs}
@@ -13,7 +13,7 @@ array-read-result : tie.Need-array-read-result
 array-read-result c = search needs
 
 returns : tie.Need-returns
-unfolding sorts numberOf
+unfolding sorts treeNumber numberOf
 returns c = number-at (c .args .sort) (c .pre)
 
 pub sort-number-spec : {M : Type 1} → statement M

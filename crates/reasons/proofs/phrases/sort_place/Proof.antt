@@ -1,5 +1,5 @@
 -- `reasons::phrases::sort_place` meets its contract. Assumes nothing.
-use Rattle.refusals.specs.Refusals.{placeOf, conflictPlace}
+use Rattle.refusals.specs.Refusals.{treePlace, placeOf, conflictPlace}
 use Rattle.reasons.specs.Reading.{sorts}
 use Rattle.reasons.proofs.Sorts.{place-at}
 use borrow.Author.Needs.{needs}
@@ -13,7 +13,7 @@ array-read-result : tie.Need-array-read-result
 array-read-result c = search needs
 
 returns : tie.Need-returns
-unfolding sorts placeOf conflictPlace
+unfolding sorts treePlace placeOf conflictPlace
 returns c = place-at (c .args .sort) (c .pre)
 
 pub sort-place-spec : {M : Type 1} → statement M

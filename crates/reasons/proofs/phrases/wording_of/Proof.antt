@@ -65,6 +65,12 @@ enum-told-5 c = search needs
 worded-requires-9 : tie.Need-worded-requires-9
 worded-requires-9 c κs = search needs
 
+enum-known-refusal-6 : tie.Need-enum-known-refusal-6
+enum-known-refusal-6 c = search needs
+
+tree-wording-requires : tie.Need-tree-wording-requires
+tree-wording-requires c κs = search needs
+
 returns : tie.Need-returns
 unfolding wording sortOf valuesOf
 returns c = rw (c .before .enum-told .given .1) (c .worded .ensures)
@@ -82,6 +88,7 @@ unfolding wording sortOf valuesOf
 returns-4 c = rw (c .before .before .refusal .given .1) (c .worded4 .ensures)
 
 returns-5 : tie.Need-returns-5
+unfolding wording sortOf valuesOf
 returns-5 c = rw (c .before .before .refusal2 .given .1) (c .conflict-wording .ensures)
 
 returns-6 : tie.Need-returns-6
@@ -103,6 +110,10 @@ returns-9 c = rw (c .before .enum-told4 .given .1) (c .worded8 .ensures)
 returns-10 : tie.Need-returns-10
 unfolding wording sortOf valuesOf
 returns-10 c = rw (c .before .enum-told5 .given .1) (c .worded9 .ensures)
+
+returns-11 : tie.Need-returns-11
+unfolding wording sortOf valuesOf
+returns-11 c = rw (c .before .before .refusal6 .given .1) (c .tree-wording .ensures)
 
 pub wording-of-spec : {M : Type 1} → statement M
 wording-of-spec =
@@ -128,6 +139,8 @@ wording-of-spec =
     worded-requires-8
     enum-told-5
     worded-requires-9
+    enum-known-refusal-6
+    tree-wording-requires
     returns
     returns-2
     returns-3
@@ -137,4 +150,5 @@ wording-of-spec =
     returns-7
     returns-8
     returns-9
-    returns-10)
+    returns-10
+    returns-11)

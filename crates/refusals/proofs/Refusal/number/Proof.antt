@@ -35,6 +35,12 @@ enum-told-9 c = search needs
 enum-told-10 : tie.Need-enum-told-10
 enum-told-10 c = search needs
 
+enum-known-self : tie.Need-enum-known-self
+enum-known-self c = search needs
+
+number-requires : tie.Need-number-requires
+number-requires c κs = search needs
+
 returns : tie.Need-returns
 unfolding numberOf
 returns c = rw (c .enum-told .given .1) refl
@@ -75,6 +81,10 @@ returns-10 : tie.Need-returns-10
 unfolding numberOf
 returns-10 c = rw (c .enum-told10 .given .1) refl
 
+returns-11 : tie.Need-returns-11
+unfolding numberOf
+returns-11 c = rw (c .before .before .self .given .1) (c .number .ensures)
+
 pub number-spec : {M : Type 1} → statement M
 number-spec =
     tie.close
@@ -89,6 +99,8 @@ number-spec =
     enum-told-8
     enum-told-9
     enum-told-10
+    enum-known-self
+    number-requires
     returns
     returns-2
     returns-3
@@ -98,4 +110,5 @@ number-spec =
     returns-7
     returns-8
     returns-9
-    returns-10)
+    returns-10
+    returns-11)

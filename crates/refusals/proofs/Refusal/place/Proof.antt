@@ -38,6 +38,12 @@ enum-told-4 c = search needs
 enum-told-5 : tie.Need-enum-told-5
 enum-told-5 c = search needs
 
+enum-known-self-6 : tie.Need-enum-known-self-6
+enum-known-self-6 c = search needs
+
+place-requires-2 : tie.Need-place-requires-2
+place-requires-2 c κs = search needs
+
 returns : tie.Need-returns
 unfolding placeOf
 returns c = rw (c .enum-told .given .1) refl
@@ -78,6 +84,10 @@ returns-10 : tie.Need-returns-10
 unfolding placeOf
 returns-10 c = rw (c .enum-told5 .given .1) refl
 
+returns-11 : tie.Need-returns-11
+unfolding placeOf
+returns-11 c = rw (c .before .before .self6 .given .1) (c .place2 .ensures)
+
 pub place-spec : {M : Type 1} → statement M
 place-spec =
     tie.close
@@ -93,6 +103,8 @@ place-spec =
     enum-known-self-5
     enum-told-4
     enum-told-5
+    enum-known-self-6
+    place-requires-2
     returns
     returns-2
     returns-3
@@ -102,4 +114,5 @@ place-spec =
     returns-7
     returns-8
     returns-9
-    returns-10)
+    returns-10
+    returns-11)
