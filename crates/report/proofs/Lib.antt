@@ -3,5 +3,7 @@
 pub mod LineText
 -- no two plans have the same text
 pub mod OneText
+-- nor have two plans of surveyed trees
+pub mod OneTreeText
 -- the examples
 pub mod ExamplesHold

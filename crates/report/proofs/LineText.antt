@@ -10,10 +10,12 @@ use Rattle.refusals.specs.declared.Refusal.{Refusal}
 use Rattle.refusals.specs.Refusals.{numberOf, placeOf}
 use Rattle.balanced.specs.declared.Line.{Line}
 use Rattle.balanced.specs.Lines.{letter}
+use Rattle.tree.specs.declared.NodeLine.{NodeLine}
 use Rattle.report.specs.Text.{header, numbers, lineText, text, refusalText}
+use Rattle.report.specs.TreeText.{treeHeader, nodeText, treeText}
 
--- a line and its LF: its letter, and each number behind a space
-pub line-spaced : (l : Line) → lineText l ++ 10 ∷ []
+-- a line: its letter, and each number behind a space
+pub line-columns : (l : Line) → lineText l
     ≡ (letter (l .kind) ∷ [])
     ++ (32 ∷ decimal (l .depth))
     ++ (32 ∷ decimal (l .figures .rate .0))
@@ -23,9 +25,13 @@ pub line-spaced : (l : Line) → lineText l ++ 10 ∷ []
     ++ (32 ∷ decimal (l .figures .latency .0))
     ++ (32 ∷ decimal (l .figures .buffer .0))
     ++ (32 ∷ decimal (l .figures .delay .0))
-    ++ 10 ∷ []
 unfolding lineText joined numbers
-line-spaced l = simp append-assoc
+line-columns l = simp append-assoc
+
+-- a node's line: these columns, and ROUTE behind a space
+pub node-columns : (n : NodeLine) → nodeText n ≡ lineText (n .line) ++ (32 ∷ decimal (n .route .0))
+unfolding nodeText lineText joined numbers
+node-columns n = simp append-assoc
 
 -- lines behind lines
 ended-append : (ls ms : List (List ℕ)) → ended (ls ++ ms) ≡ ended ls ++ ended ms
@@ -65,3 +71,18 @@ text-none = refl
 pub header-length : length (header ++ 10 ∷ []) ≡ 56
 unfolding header ascii
 header-length = refl
+
+-- the same of a surveyed tree's plan
+abbrev pub treeBelow : List NodeLine → List ℕ
+treeBelow p = ended (map nodeText p)
+
+pub tree-below-snoc : (p : List NodeLine) (n : NodeLine) → treeBelow (p ++ n ∷ []) ≡ treeBelow p ++ (nodeText n ++ 10 ∷ [])
+tree-below-snoc p n = ap ended (map-append nodeText p (n ∷ [])) ∙ ended-snoc (map nodeText p) (nodeText n)
+
+pub tree-text-below : (p : List NodeLine) → treeText p ≡ (treeHeader ++ 10 ∷ []) ++ treeBelow p
+unfolding treeText ended
+tree-text-below p = sym (append-assoc treeHeader (10 ∷ []) (treeBelow p))
+
+pub tree-header-length : length (treeHeader ++ 10 ∷ []) ≡ 62
+unfolding treeHeader ascii
+tree-header-length = refl

@@ -30,7 +30,7 @@ digits-lack c (b ∷ bs) h e =
     let r = digits-head b bs e in lacks-above c b bs (omega (arith, r .0)) (digits-lack c bs h (r .2))
 
 -- nor is it a letter of a kind
-letter-lacks : (c : ℕ) (k : Kind) → c < 48 → lacks c (letter k ∷ []) ≡ true
+pub letter-lacks : (c : ℕ) (k : Kind) → c < 48 → lacks c (letter k ∷ []) ≡ true
 unfolding lacks letter
 letter-lacks c k h = lacks-above c (letter k) [] (below k) refl where
   below : (j : Kind) → c < letter j
@@ -46,7 +46,7 @@ header-lacks = refl
 -- ---- values apart are lines apart
 
 -- lists are the same where a function that keeps values apart gives the same
-map-apart : {A B : Type 0} (f : A → B) → ((a b : A) → f a ≡ f b → a ≡ b) → (s t : List A) → map f s ≡ map f t → s ≡ t
+pub map-apart : {A B : Type 0} (f : A → B) → ((a b : A) → f a ≡ f b → a ≡ b) → (s t : List A) → map f s ≡ map f t → s ≡ t
 map-apart f h [] [] e = refl
 map-apart f h [] (y ∷ ys) e = absurd (cons≢nil (sym e))
 map-apart f h (x ∷ xs) [] e = absurd (cons≢nil e)
@@ -55,7 +55,7 @@ map-apart f h (x ∷ xs) (y ∷ ys) e =
     let r = map-apart f h xs ys (tail-eq-of-cons-eq e) in cc
 
 -- no two kinds have the same letter
-letter-apart : (a b : Kind) → letter a ≡ letter b → a ≡ b
+pub letter-apart : (a b : Kind) → letter a ≡ letter b → a ≡ b
 unfolding letter
 letter-apart EndNode EndNode e = refl
 letter-apart EndNode Upward e = absurd (omega (arith, e))
@@ -75,7 +75,7 @@ letter-apart Sink Downward e = absurd (omega (arith, e))
 letter-apart Sink Sink e = refl
 
 -- the line of that kind with these numbers behind it
-lineOf : Kind → List ℕ → Line
+unfoldable pub lineOf : Kind → List ℕ → Line
 lineOf k ns = record {
   kind = k;
   depth = getD ns 0 0;
@@ -90,7 +90,7 @@ lineOf k ns = record {
   };
 }
 
-line-of : (l : Line) → lineOf (l .kind) (numbers l) ≡ l
+pub line-of : (l : Line) → lineOf (l .kind) (numbers l) ≡ l
 unfolding lineOf numbers
 line-of l = refl
 
@@ -101,7 +101,7 @@ same-line l m e q =
 
 -- ---- plans apart are texts apart
 
-numbers-lack : (c : ℕ) (ns : List ℕ) → c < 48 → allLack c (map decimal ns) ≡ true
+pub numbers-lack : (c : ℕ) (ns : List ℕ) → c < 48 → allLack c (map decimal ns) ≡ true
 unfolding allLack
 numbers-lack c [] h = refl
 numbers-lack c (n ∷ ns) h = rw (digits-lack c (decimal n) h (written-in-decimal n .onlyDigits), numbers-lack c ns h)

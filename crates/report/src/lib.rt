@@ -1,4 +1,4 @@
-// The printed plan (document 01, 'The printed plan'): the text of a plan's lines, and of a refusal.
+// The printed plan (document 01, 'The printed plan'; document 02, E3): the text of a plan's lines, and of a refusal.
 //
 // No public function has a `requires`. Each puts its text into lent memory as far as there is room, leaves all other bytes as they
 // were, and answers the text's whole length, as equations with definitions of specs/ say. A plan is put piece by piece: its header
@@ -9,17 +9,23 @@ ghost use Prim.Native.Nat.{_≤_, min};
 ghost use lib.ListN.{length};
 ghost use lib.Seq.{sets};
 ghost use Rattle.report.specs.Text.{header, lineText, refusalText};
+ghost use Rattle.report.specs.TreeText.{treeHeader, nodeText};
 use crate::line::put_ended;
+use crate::line::put_node_ended;
 use crate::line::put_spaced;
 use balanced::Line;
 use buffer::put_byte;
 use buffer::put_bytes;
 use refusals::Refusal;
+use tree::NodeLine;
 
 mod line; // one line of a plan
 
 // No text of a plan is longer: a header line of 56 bytes, and 26 lines of at most 170.
 pub const LONGEST: usize = 4476;
+
+// No text of a surveyed tree's plan is longer: a header line of 62 bytes, and 254 lines of at most 191.
+pub const LONGEST_TREE: usize = 48576;
 
 // Puts the header line, and answers its length.
 pub fn put_header(out: &mut [u8]) -> usize
@@ -42,6 +48,28 @@ pub fn put_line(out: &mut [u8], at: usize, line: Line) -> usize
     // A position behind the end counts as the end, where there is no room either: so no position behind it wraps.
     let start = lower(at, out.len());
     put_ended(out, start, line) - start
+}
+
+// Puts the header line of a surveyed tree's plan, and answers its length.
+pub fn put_tree_header(out: &mut [u8]) -> usize
+    ensures { λ r. ⌜ r ≡ 62 ⌝ }
+    ensures { λ _. ⌜ now (out .exit) ≡ sets (now (out .entry)) 0 (treeHeader ++ 10 ∷ []) ⌝ }
+{
+    put_bytes(
+        out,
+        0,
+        b"KIND DEPTH RATE BURST SLOTS FRAMES LATENCY BUFFER DELAY ROUTE\n",
+    )
+}
+
+// Puts a node's line and its LF at a position, as far as there is room, and answers how long they are.
+pub fn put_node_line(out: &mut [u8], at: usize, node: NodeLine) -> usize
+    ensures { λ r. ⌜ r ≡ length (nodeText node ++ 10 ∷ []) ⌝ }
+    ensures { λ r. ⌜ r ≤ 191 ⌝ }
+    ensures { λ _. ⌜ now (out .exit) ≡ sets (now (out .entry)) at (nodeText node ++ 10 ∷ []) ⌝ }
+{
+    let start = lower(at, out.len());
+    put_node_ended(out, start, node) - start
 }
 
 // The lower of two positions.

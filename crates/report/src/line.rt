@@ -7,10 +7,12 @@ ghost use lib.Seq.{sets};
 ghost use Rattle.decimal.specs.Decimal.{decimal};
 ghost use Rattle.balanced.specs.Lines.{letter};
 ghost use Rattle.report.specs.Text.{lineText};
+ghost use Rattle.report.specs.TreeText.{nodeText};
 use balanced::Kind;
 use balanced::Line;
 use buffer::put_byte;
 use decimal::put_number;
+use tree::NodeLine;
 
 // Puts a line and its LF at a position, and answers the position behind them, which must not wrap.
 pub(crate) fn put_ended(out: &mut [u8], at: usize, line: Line) -> usize
@@ -18,6 +20,31 @@ pub(crate) fn put_ended(out: &mut [u8], at: usize, line: Line) -> usize
     ensures { λ r. ⌜ r ≡ at + length (lineText line ++ 10 ∷ []) ⌝ }
     ensures { λ r. ⌜ r ≤ at + 170 ⌝ }
     ensures { λ _. ⌜ now (out .exit) ≡ sets (now (out .entry)) at (lineText line ++ 10 ∷ []) ⌝ }
+{
+    let end = put_columns(out, at, line);
+    put_byte(out, end, 0, 10);
+    end + 1
+}
+
+// The same for a node's line: document 01's columns, ROUTE and LF.
+pub(crate) fn put_node_ended(out: &mut [u8], at: usize, node: NodeLine) -> usize
+    requires { ⌜ at + 191 < 2 ^ 64 ⌝ }
+    ensures { λ r. ⌜ r ≡ at + length (nodeText node ++ 10 ∷ []) ⌝ }
+    ensures { λ r. ⌜ r ≤ at + 191 ⌝ }
+    ensures { λ _. ⌜ now (out .exit) ≡ sets (now (out .entry)) at (nodeText node ++ 10 ∷ []) ⌝ }
+{
+    let end = put_columns(out, at, node.line);
+    let end = put_spaced(out, end, node.route.0);
+    put_byte(out, end, 0, 10);
+    end + 1
+}
+
+// Puts a line without its LF at a position, and answers the position behind it, which must not wrap.
+fn put_columns(out: &mut [u8], at: usize, line: Line) -> usize
+    requires { ⌜ at + 169 < 2 ^ 64 ⌝ }
+    ensures { λ r. ⌜ r ≡ at + length (lineText line) ⌝ }
+    ensures { λ r. ⌜ r ≤ at + 169 ⌝ }
+    ensures { λ _. ⌜ now (out .exit) ≡ sets (now (out .entry)) at (lineText line) ⌝ }
 {
     let kind = line.kind;
     let f = line.figures;
@@ -29,9 +56,7 @@ pub(crate) fn put_ended(out: &mut [u8], at: usize, line: Line) -> usize
     let end = put_spaced(out, end, f.frames.0);
     let end = put_spaced(out, end, f.latency.0);
     let end = put_spaced(out, end, f.buffer.0);
-    let end = put_spaced(out, end, f.delay.0);
-    put_byte(out, end, 0, 10);
-    end + 1
+    put_spaced(out, end, f.delay.0)
 }
 
 // Puts a space and a number in decimal at a position, and answers the position behind them, which must not wrap.

@@ -1,122 +1,31 @@
 -- `report::line::put_ended` meets its contract. Assumes nothing.
 use mathlib.Core.List.{[], _∷_, _++_}
-use Prim.Native.Nat.{_+_, _≤_}
+use Prim.Native.Nat.{_+_}
 use native.Mathlib.Omega.{arith}
-use borrow.Author.Needs.{needs}
-use Rattle.decimal.specs.Decimal.{decimal}
-use Rattle.balanced.specs.Lines.{letter}
 use Rattle.report.specs.Text.{lineText}
-use Rattle.report.proofs.LineText.{line-spaced}
-use Rattle.buffer.proofs.Behind.{Put, put-one, put-behind, byte-behind, put-keeps}
+use Rattle.buffer.proofs.Behind.{Put, byte-behind, put-keeps}
+use borrow.Author.Needs.{needs}
 use Rattle.report.proofs.line.put_ended.Statement.{statement}
 use Rattle.report.proofs.line.put_ended.Tie as tie
 
--- the letter is put
-letter-put : (c : tie.After-put-byte)
-    → let a = c .before .before .before .before .before .args in
-    Put (a .out .now) (a .at) (letter (a .line .kind) ∷ []) (c .put-byte .last .0) (a .at + 1)
-letter-put c = put-one _ _ _ _ (rw (c .before .letter-of .ensures) at (c .put-byte .ensures))
-
--- where it is put, and where the call begins, seen from behind the number before the last
-abbrev first : tie.After-put-spaced7 → tie.After-put-byte
-first c =
-    let slots = c .before .before .before .before .before .before .before .before .before .before .before .before in
-    slots .before .before .before .before .before .before .before .before .before .before .before .before .before .before .before .before
-
-abbrev start : tie.After-put-spaced7 → tie.Start
-start c = first c .before .before .before .before .before
-
--- the letter and seven numbers are short
-seven-short : (c : tie.After-put-spaced7) → c .put-spaced7 .result ≤ start c .args .at + 148
-seven-short c =
-    let latency = c .before .before .before .before in
-    let frames = latency .before .before .before .before in
-    let slots = frames .before .before .before .before in
-    let burst = slots .before .before .before .before in
-    let rate = burst .before .before .before .before in
-    let depth = rate .before .before .before .before in
-    omega (
-      arith,
-      depth .put-spaced .ensures .1 .0,
-      rate .put-spaced2 .ensures .1 .0,
-      burst .put-spaced3 .ensures .1 .0,
-      slots .put-spaced4 .ensures .1 .0,
-      frames .put-spaced5 .ensures .1 .0,
-      latency .put-spaced6 .ensures .1 .0,
-      c .put-spaced7 .ensures .1 .0,
-    )
-
--- and so is all before the LF
-short : (c : tie.After-put-spaced8) → c .put-spaced8 .result ≤ start (c .before .before .before .before) .args .at + 169
-short c = omega (arith, c .put-spaced8 .ensures .1 .0, seven-short (c .before .before .before .before))
-
-letter-of-requires : tie.Need-letter-of-requires
-letter-of-requires c κs = search needs
+put-columns-requires : tie.Need-put-columns-requires
+put-columns-requires c κs = search needs
 
 put-byte-requires : tie.Need-put-byte-requires
 put-byte-requires c κs = search needs
 
-add-put-spaced : tie.Need-add-put-spaced
-add-put-spaced c = search needs
-
-put-spaced-requires : tie.Need-put-spaced-requires
-put-spaced-requires c κs = search needs
-
-put-spaced-requires-2 : tie.Need-put-spaced-requires-2
-put-spaced-requires-2 c κs = search needs
-
-put-spaced-requires-3 : tie.Need-put-spaced-requires-3
-put-spaced-requires-3 c κs = search needs
-
-put-spaced-requires-4 : tie.Need-put-spaced-requires-4
-put-spaced-requires-4 c κs = search needs
-
-put-spaced-requires-5 : tie.Need-put-spaced-requires-5
-put-spaced-requires-5 c κs = search needs
-
-put-spaced-requires-6 : tie.Need-put-spaced-requires-6
-put-spaced-requires-6 c κs = search needs
-
-put-spaced-requires-7 : tie.Need-put-spaced-requires-7
-put-spaced-requires-7 c κs = search needs
-
-put-spaced-requires-8 : tie.Need-put-spaced-requires-8
-put-spaced-requires-8 c κs =
-    let buffer = c .before .before .before in
-    omega (arith, seven-short buffer, start buffer .pre)
-
-put-byte-requires-2 : tie.Need-put-byte-requires-2
-put-byte-requires-2 c κs = search needs
-
 add-result : tie.Need-add-result
-add-result c =
-    let delay = c .before .before .before .before .before .before in
-    omega (arith, short delay, start (delay .before .before .before .before) .pre)
+add-result c = search needs
 
 -- the line and its LF are put
-ended-put : (c : tie.After-put-byte2)
-    → let delay = c .before .before .before .before in
-    let a = start (delay .before .before .before .before) .args in
-    Put (a .out .now) (a .at) (lineText (a .line) ++ 10 ∷ []) (c .put-byte2 .last .0) (delay .put-spaced8 .result + 1)
+ended-put : (c : tie.After-put-byte)
+    → let columns = c .before .before .before .before in
+    let a = columns .before .before .before .args in
+    Put (a .out .now) (a .at) (lineText (a .line) ++ 10 ∷ []) (c .put-byte .last .0) (columns .put-columns .result + 1)
 ended-put c =
-    let delay = c .before .before .before .before in
-    let buffer = delay .before .before .before .before in
-    let latency = buffer .before .before .before .before in
-    let frames = latency .before .before .before .before in
-    let slots = frames .before .before .before .before in
-    let burst = slots .before .before .before .before in
-    let rate = burst .before .before .before .before in
-    let depth = rate .before .before .before .before in
-    let l = start buffer .args .line in
-    let p1 = put-behind (32 ∷ decimal (l .depth)) (letter-put (first buffer)) (depth .put-spaced .ensures .0) (depth .put-spaced .ensures .1 .1) in
-    let p2 = put-behind (32 ∷ decimal (l .figures .rate .0)) p1 (rate .put-spaced2 .ensures .0) (rate .put-spaced2 .ensures .1 .1) in
-    let p3 = put-behind (32 ∷ decimal (l .figures .burst .0)) p2 (burst .put-spaced3 .ensures .0) (burst .put-spaced3 .ensures .1 .1) in
-    let p4 = put-behind (32 ∷ decimal (l .figures .slots .0)) p3 (slots .put-spaced4 .ensures .0) (slots .put-spaced4 .ensures .1 .1) in
-    let p5 = put-behind (32 ∷ decimal (l .figures .frames .0)) p4 (frames .put-spaced5 .ensures .0) (frames .put-spaced5 .ensures .1 .1) in
-    let p6 = put-behind (32 ∷ decimal (l .figures .latency .0)) p5 (latency .put-spaced6 .ensures .0) (latency .put-spaced6 .ensures .1 .1) in
-    let p7 = put-behind (32 ∷ decimal (l .figures .buffer .0)) p6 (buffer .put-spaced7 .ensures .0) (buffer .put-spaced7 .ensures .1 .1) in
-    let p8 = put-behind (32 ∷ decimal (l .figures .delay .0)) p7 (delay .put-spaced8 .ensures .0) (delay .put-spaced8 .ensures .1 .1) in
-    rw (line-spaced l) (byte-behind 10 p8 (c .put-byte2 .ensures))
+    let columns = c .before .before .before .before in
+    let w = columns .put-columns .ensures in
+    byte-behind {t = lineText (columns .before .before .before .args .line)} 10 (record { leaves = w .1 .1; ends = w .0 }) (c .put-byte .ensures)
 
 same-length : tie.Need-same-length
 same-length c = put-keeps _ (ended-put (c .before .before))
@@ -124,24 +33,8 @@ same-length c = put-keeps _ (ended-put (c .before .before))
 returns : tie.Need-returns
 returns c =
     let put = ended-put (c .before .before) in
-    (put .ends, (omega (arith, short (c .before .before .before .before .before .before)), put .leaves))
+    (put .ends, (omega (arith, c .before .before .before .before .before .before .put-columns .ensures .1 .0), put .leaves))
 
 pub put-ended-spec : {M : Type 1} → statement M
 put-ended-spec =
-    tie.close
-    (tie.spec
-    letter-of-requires
-    put-byte-requires
-    add-put-spaced
-    put-spaced-requires
-    put-spaced-requires-2
-    put-spaced-requires-3
-    put-spaced-requires-4
-    put-spaced-requires-5
-    put-spaced-requires-6
-    put-spaced-requires-7
-    put-spaced-requires-8
-    put-byte-requires-2
-    add-result
-    same-length
-    returns)
+    tie.close (tie.spec put-columns-requires put-byte-requires add-result same-length returns)

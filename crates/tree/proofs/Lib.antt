@@ -1,0 +1,27 @@
+-- Laws and proofs of surveyed trees. Assumes nothing.
+-- the ways away from the sink end, and the loads' two equations
+pub mod Steps
+-- what all nodes make together bounds what enters one
+pub mod Shares
+-- rates and bursts fit
+pub mod LoadBounds
+-- the way to the sink
+pub mod WayLaws
+-- routers and depths
+pub mod Shapes
+-- no condition broken exactly where a tree can be planned
+pub mod Conditions
+-- what enters a node
+pub mod Entering
+-- routes' delays
+pub mod Delays
+-- frames and the sensors that made them
+pub mod Makers
+-- the printed lines, node by node
+pub mod NodeLines
+-- the tree's network has what network's theorem asks for
+pub mod Provisions
+-- demand 3
+pub mod Promised
+-- the laws
+pub mod LawsHold

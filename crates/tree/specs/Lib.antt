@@ -1,0 +1,19 @@
+-- What a reader must believe of surveyed trees, in reading order. Assumes nothing.
+-- nodes, routers, neighbours
+pub mod Tree
+-- the way to the sink, whose superframe a link lies in, KIND and DEPTH
+pub mod Ways
+-- loads
+pub mod Loads
+-- the settings beside
+pub mod Beside
+-- the lines, ROUTE
+pub mod Lines
+-- numbers 3 to 7
+pub mod Checks
+-- planned, or the first refusal
+pub mod Outcome
+-- demand 3: the run of the tree, and what holds in it
+pub mod Promise
+-- demands 2 and 3 as short statements
+pub mod Laws
