@@ -12,7 +12,10 @@ use Rattle.superframe.proofs.ExchangeLaws.{exchange-for-octets}
 use Rattle.links.specs.declared.Timing.{Timing}
 use Rattle.settings.specs.declared.Settings.{Settings}
 use Rattle.settings.specs.Laws.{Checked}
+use Rattle.measure.specs.Measures.{upTo64}
+use Rattle.measure.proofs.Limits.{up-to-fits}
 use Rattle.balanced.specs.Times.{timingOf, routersBelow, reservationsAt, reservableAt}
+use Rattle.planner.specs.Times.{timingAnswered}
 
 -- an order in its range is taken as it is
 order-is : (o : ℕ) → o ≤ 14 → min o 14 ≡ o
@@ -29,9 +32,15 @@ reservable-lowest s h i k l e =
     let alone : s .ne + 0 ≡ s .ne = omega arith in
     e ∙ rw (order-is (s .so) (h .so), le-ltb i (s .h) k, alone)
 
-pub timing-made : (s : Settings) → Checked s → (i t x : Symbols) → i ≡ beaconInterval (min (s .bo) 14) → t ≡ slot (min (s .so) 14) → x ≡ exchangeFor (s .head + s .payload) (eqb (s .ack) 1)
-    → _≡_ {A = Timing} (record { interval = i; slot = t; exchange = x }) (timingOf s)
-unfolding timingOf
-timing-made s h i t x ei et ex =
-    let x′ = ex ∙ exchange-for-octets (s .head + s .payload) (eqb (s .ack) 1) (omega (arith, h .head .0, h .payload .0)) (h .frame) in
-    rw (ei, et, x′, order-is (s .bo) (h .bo), order-is (s .so) (h .so))
+-- times from the answers for each
+pub timing-made : (s : Settings) (i t x : Symbols) (o : ℕ) → o ≡ upTo64 (s .head + s .payload) → i ≡ beaconInterval (min (s .bo) 14) → t ≡ slot (min (s .so) 14) → x ≡ exchangeFor o (eqb (s .ack) 1)
+    → _≡_ {A = Timing} (record { interval = i; slot = t; exchange = x }) (timingAnswered s)
+unfolding timingAnswered
+timing-made s i t x o eo ei et ex = rw (ei, et, ex, eo)
+
+-- and of checked settings
+pub timing-fits : (s : Settings) → Checked s → timingAnswered s ≡ timingOf s
+unfolding timingAnswered timingOf
+timing-fits s h =
+    let o : upTo64 (s .head + s .payload) ≡ s .head + s .payload = up-to-fits (omega (arith, h .frame)) in
+    rw (o, order-is (s .bo) (h .bo), order-is (s .so) (h .so), exchange-for-octets (s .head + s .payload) (eqb (s .ack) 1) (omega (arith, h .head .0, h .payload .0)) (h .frame))

@@ -18,7 +18,7 @@ use refusals::Refusal;
 use refusals::Verdict;
 use settings::Settings;
 
-mod timing; // the times that a row sets
+pub mod timing; // the times that settings set
 mod counts; // numbers 5 and 6
 mod table; // the links of the depths
 mod loads; // the load and the reservation of every link, from depth H to the root and on to the sink

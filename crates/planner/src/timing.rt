@@ -1,25 +1,26 @@
-// The times that a row sets, and the slots that its routers may reserve. The settings are checked: `plan_of` hands on no others.
+// The times that settings set, and the slots that a row's routers may reserve.
 ghost use mathlib.Core.Path.{_≡_};
 ghost use Rattle.settings.specs.Laws.{Checked};
-ghost use Rattle.balanced.specs.Times.{timingOf, reservableAt};
+ghost use Rattle.balanced.specs.Times.{reservableAt};
+ghost use Rattle.planner.specs.Times.{timingAnswered};
 use links::Timing;
 use measure::Slots;
 use settings::Settings;
 use superframe::orders::reservable_slots;
 
-// BI, S and X of checked settings.
-pub(crate) fn timing_of(s: Settings) -> Timing
-    requires { ⌜ Checked s ⌝ }
-    ensures { λ r. ⌜ r ≡ timingOf s ⌝ }
+// BI, S and X of any settings.
+pub fn timing_of(s: Settings) -> Timing
+    ensures { λ r. ⌜ r ≡ timingAnswered s ⌝ }
 {
+    let octets = measure::number::sum(s.head, s.payload);
     Timing {
         interval: superframe::orders::beacon_interval(s.bo),
         slot: superframe::orders::slot_length(s.so),
-        exchange: superframe::exchange::exchange_time(s.head + s.payload, s.ack == 1),
+        exchange: superframe::exchange::exchange_time(octets, s.ack == 1),
     }
 }
 
-// L of a router at depth i: it has NE reservations, and above depth H NR more.
+// L of a router at depth i, of checked settings: it has NE reservations, and above depth H NR more.
 pub(crate) fn reservable_at(s: Settings, i: u64) -> Slots
     requires { ⌜ Checked s ⌝ }
     ensures { λ r. ⌜ r ≡ reservableAt s i ⌝ }

@@ -4,27 +4,27 @@ use borrow.Author.Needs.{needs}
 use Rattle.planner.proofs.timing.timing_of.Statement.{statement}
 use Rattle.planner.proofs.timing.timing_of.Tie as tie
 
+sum-requires : tie.Need-sum-requires
+sum-requires c κs = search needs
+
 beacon-interval-requires : tie.Need-beacon-interval-requires
 beacon-interval-requires c κs = search needs
 
 slot-length-requires : tie.Need-slot-length-requires
 slot-length-requires c κs = search needs
 
-add-exchange-time : tie.Need-add-exchange-time
-add-exchange-time c = search needs
-
 exchange-time-requires : tie.Need-exchange-time-requires
 exchange-time-requires c κs = search needs
 
 returns : tie.Need-returns
-returns c = let b = c .before .before .before .before .before in timing-made (b .args .s) (b .pre) _ _ _ (c .before .before .before .before .beacon-interval .ensures) (c .before .before .before .slot-length .ensures) (c .exchange-time .ensures)
+returns c = timing-made (c .before .before .before .before .before .args .s) _ _ _ _ (c .before .before .before .before .sum .ensures) (c .before .before .before .beacon-interval .ensures) (c .before .before .slot-length .ensures) (c .exchange-time .ensures)
 
 pub timing-of-spec : {M : Type 1} → statement M
 timing-of-spec =
     tie.close
     (tie.spec
+    sum-requires
     beacon-interval-requires
     slot-length-requires
-    add-exchange-time
     exchange-time-requires
     returns)
