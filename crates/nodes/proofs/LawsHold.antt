@@ -1,5 +1,5 @@
 -- The laws of specs/Laws. Assumes nothing.
-use mathlib.Core.Path.{_≡_, refl, ap, sym, _∙_}
+use mathlib.Core.Path.{_∙_}
 use mathlib.Core.Bool.{true, _&&_, and-eq-true-iff, true≢false}
 use mathlib.Core.List.{List, [], _∷_, _++_}
 use Prim.Native.Nat.{ℕ, _≤_}
@@ -13,7 +13,6 @@ use Rattle.tree.specs.Tree.{isNode, isRouter}
 use Rattle.tree.specs.Lines.{lines}
 use Rattle.tree.specs.Checks.{conditions}
 use Rattle.tree.specs.Outcome.{Planned, Refused, outcomeOf}
-use Rattle.tree.specs.Laws.{Surveyed}
 use Rattle.tree.proofs.LawsHold.{no-plan, every-plan-keeps}
 use Rattle.nodes.specs.Survey.{nodeLines, treeFrom, treeIn, named, linesFrom, listed, sinkRight, surveyed, outcomeIn}
 use Rattle.nodes.specs.Laws.{UnbrokenIsSurveyed, PlannedText, EveryTextKeeps}

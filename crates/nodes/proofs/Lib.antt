@@ -5,3 +5,7 @@ pub mod Taking
 pub mod Listed
 -- the laws
 pub mod LawsHold
+-- all that a text's outcome is computed with
+pub mod Computing
+-- the examples, computed
+pub mod ExamplesHold

@@ -1,17 +1,16 @@
 -- What the lines of a node list that keep number 10 say of its tree. Assumes nothing.
-use mathlib.Core.Path.{_≡_, refl, ap, sym, _∙_}
-use mathlib.Core.Bool.{Bool, true, false, cond, not, _&&_, _||_, and-eq-true-iff, false≢true}
+use mathlib.Core.Path.{_≡_, refl}
+use mathlib.Core.Bool.{Bool, true, false, _&&_, _||_, and-eq-true-iff, false≢true}
 use mathlib.Core.Logic.{_⊎_, inl, inr}
 use mathlib.Core.List.{List, [], _∷_, map}
-use Prim.Native.Nat.{ℕ, zero, suc, _+_, _-_, _≤_, _<_}
-use native.Mathlib.Decide.{ℕ-discrete}
+use Prim.Native.Nat.{ℕ, zero, suc, _+_, _≤_, _<_}
 use native.Mathlib.Omega.{arith}
 use lib.Dec.{eqb, leb, ltb}
-use lib.ListN.{length, getD, length-map, List·getD-map}
-use borrow.Author.Tests.{eqb-true, leb-true, ltb-true, eq-eqb, ne-eqb, not-false}
+use lib.ListN.{length, getD, length-map}
+use borrow.Author.Tests.{eqb-true, leb-true, ltb-true, ne-eqb, not-false}
 use Rattle.refusals.specs.Conditions.{Unbroken}
 use Rattle.settings.specs.Columns.{table, columnAt}
-use Rattle.tree.specs.Tree.{Tree, Planted, Ranged}
+use Rattle.tree.specs.Tree.{Planted, Ranged}
 use Rattle.nodes.specs.declared.Reading.{Reading}
 use Rattle.nodes.specs.declared.Reading.the-variants.{Node, Unreadable}
 use Rattle.nodes.specs.Entries.{entryIn, parentRight, sensorRight, entryRight, lineRight}

@@ -7,7 +7,6 @@ use Rattle.decimal.specs.Ascii.{ascii}
 use Rattle.decimal.specs.Number.{readable, spelled}
 use Rattle.lines.specs.Text.{same, fields}
 use Rattle.settings.specs.Columns.{columnAt, within}
-use Rattle.nodes.specs.declared.Entry.{Entry}
 use Rattle.nodes.specs.declared.Reading.{Reading}
 use Rattle.nodes.specs.declared.Reading.the-variants.{Node, Unreadable}
 

@@ -5,3 +5,5 @@ pub mod Entries
 pub mod Survey
 -- what holds of node lists, for the layers above
 pub mod Laws
+-- texts and what they come to, computed
+pub mod Examples

@@ -1,5 +1,5 @@
 -- The tree that a text lists, and number 10 (document 02, E3). Assumes nothing: these are definitions.
-use mathlib.Core.Bool.{Bool, true, not, _&&_}
+use mathlib.Core.Bool.{true, not, _&&_}
 use mathlib.Core.List.{List, [], _∷_, _++_, map}
 use Prim.Native.Nat.{ℕ, suc}
 use lib.ListN.{getD, drop}

@@ -75,7 +75,7 @@ line-again o before a after e h low high = by (ltb (length before) (length (spok
       → left a after
       ≡ cond b (left (told (Refused LentTooShort)) before) (left (record { number = told o .number; place = told o .place; length = length line }) (line ++ drop (length line) before))
       → readReason (take (a .length) after) ≡ Reason (a .number) (a .place)
-  by true q = let z : a .number ≡ 8 = ap (λ (l : Left). l .answer .number) q in absurd (omega arith)
+  by true q = absurd (high (ap (λ (l : Left). l .answer .number) q))
   by false q =
       let n = ap (λ (l : Left). l .answer .number) q in
       let p = ap (λ (l : Left). l .answer .place) q in

@@ -3,8 +3,12 @@
 pub mod Entries
 -- the same for the entries that speak English
 pub mod Reasons
+-- and for those that plan surveyed trees
+pub mod Trees
 -- demand 3 of the text in the buffer
 pub mod Promise
+-- the same of a surveyed tree's
+pub mod TreePromise
 -- a text that breaks the promise: it is about something
 pub mod Broken
 -- what holds of these, for those who call the entries

@@ -53,7 +53,7 @@ unfoldable pub numbered : Reading → Numbered
 numbered (Reason n p) = record { number = n; place = p }
 numbered NoReason = record { number = 0; place = 0 }
 
--- "From the line number and place can be had again": where a call answers one of numbers 1 to 7, the line that it leaves is read as that
--- number and place
+-- "From the line number and place can be had again": where a call answers a number other than 8, the line that it leaves is read as that
+-- number and its place
 abbrev pub ReadAgain : Answer → List ℕ → Type 0
-ReadAgain a buffer = 1 ≤ a .number → a .number ≤ 7 → readReason (take (a .length) buffer) ≡ Reason (a .number) (a .place)
+ReadAgain a buffer = 1 ≤ a .number → (a .number ≡ 8 → ⊥) → readReason (take (a .length) buffer) ≡ Reason (a .number) (a .place)

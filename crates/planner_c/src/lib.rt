@@ -1,5 +1,5 @@
-// The entries for C: a row of settings, from bytes to its answer and its text (document 01, 'Rows of settings'). include/planner.h
-// declares them.
+// The entries for C: a row of settings, from bytes to its answer and its text (document 01, 'Rows of settings'), and surveyed trees.
+// include/planner.h declares them.
 //
 // No entry has a `requires`: each answers every argument, as equations with the definitions of specs/ say. What C must see to (pointers
 // that are valid for their lengths, a lent buffer apart from the inputs) is in the header.
@@ -16,6 +16,7 @@ use refusals::Verdict;
 use report::LONGEST;
 
 pub mod reason; // refusals in English
+pub mod survey; // surveyed trees
 
 // What a call answers: 0, 0 and the text's length where the row is planned; else number and place of the refusal, and 0.
 #[repr(C)]

@@ -80,7 +80,7 @@ fn put_plain(out: &mut [u8], number: u32, place: u32) -> usize
 }
 
 // Puts a line at the front of the lent buffer, where it has room.
-fn leave(number: u32, place: u32, line: &[u8], out: &mut [u8]) -> Answer
+pub(crate) fn leave(number: u32, place: u32, line: &[u8], out: &mut [u8]) -> Answer
     ensures { λ r. ⌜ left r (now (out .exit)) ≡ lineLeft number place (now (line .entry)) (now (out .entry)) ⌝ }
 {
     if out.len() < line.len() {

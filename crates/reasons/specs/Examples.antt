@@ -42,6 +42,7 @@ examples =
     ∷ example LentTooShort "The lent buffer is shorter than the text to be written." 8 0
     ∷ example InputTooLong "The input is over 65,536 bytes." 9 0
     ∷ example (InTree NodeNames) "The line of names of the node list differs or is missing." 10 0
+    ∷ example (InTree (NodeLine 3)) "Line 3 of the node list breaks a rule or is missing." 10 3
     ∷ example (InTree (NodeLine 255)) "Line 255 of the node list breaks a rule or is missing." 10 255
     ∷ example (InTree SinkNode) "The sink is no router of the tree." 10 0
     ∷ example (InTree (RouterReservations 17 8)) "Router 17 would have more than 7 reservations: it would have 8." 5 17

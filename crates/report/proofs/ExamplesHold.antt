@@ -3,13 +3,14 @@ use mathlib.Core.Path.{refl}
 use Rattle.decimal.specs.Ascii.{ascii}
 use Rattle.decimal.specs.Decimal.{digitsBy, decimal}
 use Rattle.lines.specs.Text.{joined, ended}
-use Rattle.refusals.specs.Refusals.{numberOf, placeOf}
+use Rattle.refusals.specs.Refusals.{treeNumber, treePlace, numberOf, placeOf}
 use Rattle.balanced.specs.Lines.{letter}
 use Rattle.report.specs.Text.{header, numbers, lineText, text, refusalText}
-use Rattle.report.specs.Examples.{counted, Examples}
+use Rattle.report.specs.TreeText.{treeHeader, nodeText, treeText}
+use Rattle.report.specs.Examples.{counted, routed, Examples}
 
 pub examples-hold : Examples
-unfolding ascii digitsBy decimal joined ended numberOf placeOf letter header numbers lineText text refusalText counted
+unfolding ascii digitsBy decimal joined ended treeNumber treePlace numberOf placeOf letter header numbers lineText text refusalText treeHeader nodeText treeText counted routed
 examples-hold = record {
   endNode = refl;
   upward = refl;
@@ -21,4 +22,11 @@ examples-hold = record {
   behind = refl;
   short = refl;
   long = refl;
+  node = refl;
+  noNodes = refl;
+  tree = refl;
+  brokenLine = refl;
+  noSink = refl;
+  fullRouter = refl;
+  busyRouter = refl;
 }

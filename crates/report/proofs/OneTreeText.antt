@@ -17,7 +17,7 @@ use Rattle.tree.specs.declared.NodeLine.{NodeLine}
 use Rattle.report.specs.Text.{numbers}
 use Rattle.report.specs.TreeText.{treeHeader, nodeText, treeText}
 use Rattle.report.specs.Laws.{OneTextForTrees}
-use Rattle.report.proofs.OneText.{letter-lacks, numbers-lack, map-apart, letter-apart, lineOf, line-of}
+use Rattle.report.proofs.OneText.{letter-lacks, numbers-lack, map-apart, letter-apart, lineOf}
 
 -- the numbers of a node's line
 abbrev all : NodeLine → List ℕ

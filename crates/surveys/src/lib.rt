@@ -4,7 +4,6 @@
 // No public function has a `requires`: each answers every argument, as equations with definitions of specs/ say. Inner functions presume
 // what the checks before them have found; their `requires` say what.
 ghost use mathlib.Core.Path.{_≡_};
-ghost use mathlib.Core.List.{_++_};
 ghost use Prim.Native.Nat.{_≤_};
 ghost use lib.Seq.{sets};
 ghost use Rattle.refusals.specs.declared.Verdict.the-variants.{Kept, Broken};

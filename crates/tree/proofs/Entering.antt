@@ -1,27 +1,24 @@
 -- What enters a node is what its own sensor makes and what has left the links that lead to it; where it is silent, it has no burst either.
 -- Assumes nothing.
-use mathlib.Core.Path.{_≡_, refl, sym, ap, _∙_}
+use mathlib.Core.Path.{_≡_, refl, ap, _∙_}
 use mathlib.Core.Bool.{Bool, true, false}
-use Prim.Native.Nat.{ℕ, zero, suc, _+_, _-_, _*_, _≤_, _<_}
+use Prim.Native.Nat.{ℕ, zero, suc, _+_, _*_, _≤_, _<_}
 use native.Mathlib.Nat.{le-refl}
-use native.Mathlib.Decide.{ℕ-discrete}
 use native.Mathlib.Omega.{arith}
-use lib.Dec.{eqb}
-use borrow.Author.Tests.{eq-eqb, ne-eqb}
 use Rattle.measure.specs.Measures.{frames}
 use Rattle.measure.proofs.Conversions.{burst-is}
 use Rattle.network.specs.Counting.{total, bit}
 use Rattle.links.specs.declared.Timing.{Timing}
 use Rattle.links.specs.declared.Load.{Load}
 use Rattle.links.specs.Link.{latencyOf, after}
-use Rattle.links.proofs.LinkLaws.{after-rate, after-burst}
+use Rattle.links.proofs.LinkLaws.{after-burst}
 use Rattle.tree.specs.Tree.{Tree, sumTo, feeds, Planted, Ranged, Facing}
 use Rattle.tree.specs.Ways.{next}
-use Rattle.tree.specs.Loads.{sensed, gather, inputOf, outputOf, entering}
+use Rattle.tree.specs.Loads.{sensed, inputOf, outputOf, entering}
 use Rattle.tree.proofs.Steps.{offered, remaining, falls, faces, input-step, output-step}
 use Rattle.tree.proofs.Shares.{pick, sum-mono, sum-has}
 use Rattle.tree.proofs.LoadBounds.{gather-rate, gather-burst, rate-exact}
-use Rattle.tree.proofs.WayLaws.{facing, fed, next-node}
+use Rattle.tree.proofs.WayLaws.{facing, fed}
 
 -- a sum over the run's numbers is one over nodes
 pub total-nodes : (f : ℕ → ℕ) (n : ℕ) → total (λ i. f (suc i)) n ≡ sumTo f n

@@ -1,27 +1,23 @@
 -- The laws of specs/Laws. Assumes nothing.
-use mathlib.Core.Path.{_≡_, refl, sym, ap, subst, _∙_}
-use mathlib.Core.Bool.{Bool, true, false, cond, true≢false, false≢true}
+use mathlib.Core.Path.{_≡_, refl, ap, subst, _∙_}
+use mathlib.Core.Bool.{Bool, true, false, true≢false, false≢true}
 use mathlib.Core.List.{List, [], _∷_}
-use Prim.Native.Nat.{ℕ, zero, suc, _+_, _*_, _≤_, _<_}
+use Prim.Native.Nat.{ℕ, suc, _*_, _≤_}
 use native.Mathlib.Decide.{ℕ-discrete}
 use native.Mathlib.Omega.{arith}
-use lib.Dec.{eqb}
 use borrow.Author.Tests.{eq-eqb, ne-eqb, lt-ltb}
 use Rattle.measure.specs.declared.Slots.{Slots}
 use Rattle.superframe.specs.Reservation.{Smallest}
 use Rattle.superframe.proofs.OrderLaws.{window-fits}
 use Rattle.network.specs.Counting.{All, none, each, bit}
-use Rattle.network.specs.Loads.{Linked}
 use Rattle.network.proofs.Lists.{All-join}
-use Rattle.links.specs.declared.Load.{Load}
-use Rattle.links.specs.declared.Figures.{Figures}
-use Rattle.links.specs.Link.{slotsOf, figuresOf, figuresBy}
+use Rattle.links.specs.Link.{slotsOf}
 use Rattle.links.proofs.LinkLaws.{slots-hold}
 use Rattle.refusals.specs.declared.Refusal.{Refusal}
 use Rattle.refusals.proofs.Unbroken.{unbroken-first, first-unbroken}
 use Rattle.settings.specs.declared.Settings.{Settings}
 use Rattle.settings.specs.Laws.{Checked}
-use Rattle.balanced.specs.declared.Kind.the-variants.{EndNode, Upward, Downward, Sink}
+use Rattle.balanced.specs.declared.Kind.the-variants.{Sink}
 use Rattle.balanced.specs.Times.{timingOf}
 use Rattle.balanced.specs.Lines.{letter, sameKind}
 use Rattle.balanced.proofs.LoadLaws.{timed, interval-low, exchange-low}
@@ -32,7 +28,7 @@ use Rattle.tree.specs.Loads.{entering}
 use Rattle.tree.specs.Lines.{loadAt, linkAt, figuresAt, lineAt, lines}
 use Rattle.tree.specs.Checks.{reserves, reservationsAt, usedAt, reservableAt, conditions}
 use Rattle.tree.specs.Outcome.{Outcome, Planned, Refused, outcomeOf}
-use Rattle.tree.specs.Promise.{printed, networkOf, Windows, Keeps}
+use Rattle.tree.specs.Promise.{networkOf, Windows, Keeps}
 use Rattle.tree.specs.Laws.{Surveyed, Plannable, PlannedExactly, NoSlotTooMany, EveryLoadBounded, EveryPlanKeeps, WindowsExist}
 use Rattle.tree.proofs.LoadBounds.{Low, input-low}
 use Rattle.tree.proofs.WayLaws.{facing, superframe-node}

@@ -25,3 +25,13 @@ pub mod Provisions
 pub mod Promised
 -- the laws
 pub mod LawsHold
+-- all that a surveyed tree's plan and its run are computed with
+pub mod Computing
+-- the examples, computed
+pub mod ExamplesHold
+-- hypotheses that are met, with traffic
+pub mod Witnesses
+-- a full queue
+pub mod FullQueue
+-- a frame that crosses two links
+pub mod TwoHops

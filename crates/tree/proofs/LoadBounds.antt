@@ -1,13 +1,12 @@
 -- Every load of a tree fits: its rate is at most 1,040,130 and its burst is below 2^53. Assumes nothing.
-use mathlib.Core.Path.{_≡_, refl, sym, ap, ap₂, _∙_}
+use mathlib.Core.Path.{_≡_, refl, ap, _∙_}
 use mathlib.Core.Bool.{Bool, true, false}
-use Prim.Native.Nat.{ℕ, zero, suc, _+_, _-_, _*_, _^_, _≤_, _<_}
-use native.Mathlib.Nat.{le-refl, mul-le-mul, mul-le-mul-right}
+use Prim.Native.Nat.{ℕ, zero, suc, _+_, _*_, _^_, _≤_, _<_}
+use native.Mathlib.Nat.{le-refl, mul-le-mul-right}
 use native.Mathlib.Omega.{arith}
 use Rattle.links.specs.declared.Load.{Load}
 use Rattle.links.specs.declared.Timing.{Timing}
 use Rattle.links.specs.Link.{after}
-use Rattle.links.specs.Answers.{Timed}
 use Rattle.links.proofs.LinkLaws.{after-rate, after-bound}
 use Rattle.measure.specs.Measures.{frames}
 use Rattle.measure.proofs.Conversions.{burst-is}

@@ -1,15 +1,12 @@
 -- The printed lines of a surveyed tree, node by node. Assumes nothing.
 use mathlib.Core.Path.{_≡_, refl, sym, ap, _∙_}
-use mathlib.Core.Bool.{Bool, true, false, cond}
 use mathlib.Core.List.{List, [], _∷_, _++_}
-use Prim.Native.Nat.{ℕ, zero, suc, _+_, _*_, _≤_, _<_}
+use Prim.Native.Nat.{ℕ, zero, suc, _≤_, _<_}
 use native.Mathlib.Nat.{le-antisymm}
 use native.Mathlib.Decide.{ℕ-discrete}
 use native.Mathlib.Omega.{arith}
-use lib.Dec.{eqb}
 use lib.ListN.{length, getD, length-append, List·getD-append}
-use borrow.Author.Tests.{eq-eqb, ne-eqb, eqb-true, eqb-false}
-use Rattle.measure.specs.declared.Slots.{Slots}
+use borrow.Author.Tests.{eq-eqb, ne-eqb}
 use Rattle.measure.specs.declared.Rate.{Rate}
 use Rattle.measure.specs.Measures.{slots, perInterval}
 use Rattle.network.specs.Counting.{join}

@@ -1,23 +1,21 @@
 -- Demand 3: the lines of a surveyed tree hold in every run of it. Assumes nothing.
-use mathlib.Core.Path.{_≡_, refl, sym, ap, subst, _∙_}
+use mathlib.Core.Path.{_≡_, sym, ap, subst, _∙_}
 use mathlib.Core.List.{List, [], _∷_}
 use Prim.Native.Nat.{ℕ, zero, suc, _+_, _-_, _*_, _≤_, _<_}
 use native.Mathlib.Nat.{mul-le-mul-right}
 use native.Mathlib.Decide.{decLe, ℕ-discrete}
 use native.Mathlib.Omega.{arith}
-use lib.ListN.{length, getD}
+use lib.ListN.{length}
 use borrow.Author.Tests.{ne-eqb}
 use Rattle.measure.specs.Measures.{frames}
 use Rattle.measure.proofs.Conversions.{burst-is}
 use Rattle.network.specs.Counting.{total, count, All}
-use Rattle.network.specs.Model.{Network, Frame, State, queue}
+use Rattle.network.specs.Model.{Network, State, queue}
 use Rattle.network.specs.Readings.{Reading, made}
 use Rattle.network.specs.Loads.{Linked, Buckets}
 use Rattle.network.specs.Claim.{within, Kept}
 use Rattle.network.proofs.Lists.{All-imp, All-both}
 use Rattle.network.proofs.Theorem.{every-run-is-kept}
-use Rattle.links.specs.declared.Load.{Load}
-use Rattle.links.specs.declared.Figures.{Figures}
 use Rattle.links.specs.Link.{latencyOf, after}
 use Rattle.links.proofs.LinkLaws.{after-burst, buffer-holds}
 use Rattle.settings.specs.declared.Settings.{Settings}

@@ -17,3 +17,7 @@ pub mod Outcome
 pub mod Promise
 -- demands 2 and 3 as short statements
 pub mod Laws
+-- trees, their plans, refusals and slots, computed
+pub mod Examples
+-- hypotheses that are met, with traffic, a queue that is full, and a frame that crosses two links
+pub mod Witness

@@ -1,7 +1,7 @@
 -- The loads of a surveyed tree (document 02, E3). Assumes nothing: these are definitions.
 use mathlib.Core.Bool.{Bool, true, false}
 use Prim.Native.Nat.{ℕ, zero, suc, _+_, _*_}
-use Rattle.measure.specs.Measures.{frames, burst, perInterval}
+use Rattle.measure.specs.Measures.{frames, burst}
 use Rattle.links.specs.declared.Timing.{Timing}
 use Rattle.links.specs.declared.Load.{Load}
 use Rattle.links.specs.Link.{load, plus, after}

@@ -3,10 +3,9 @@
 -- printed figures alone: SLOTS, BUFFER and ROUTE of each node's line, and RATE and BURST of the sink's. Assumes nothing: these are
 -- definitions.
 use mathlib.Core.Path.{_≡_}
-use mathlib.Core.Logic.{_≢_}
 use mathlib.Core.Bool.{cond}
 use mathlib.Core.List.{List, [], _∷_}
-use Prim.Native.Nat.{ℕ, zero, suc, _+_, _-_, _*_, _≤_, _<_, max}
+use Prim.Native.Nat.{ℕ, suc, _+_, _-_, _*_, _≤_, _<_, max}
 use lib.Dec.{leb}
 use lib.ListN.{length, getD}
 use Rattle.measure.specs.Measures.{symbols}

@@ -1,7 +1,7 @@
 -- The way from each node of a surveyed tree to the sink (document 02, E3: "Each link runs towards the sink and lies in the parent's
 -- superframe"). Assumes nothing: these are definitions.
 use mathlib.Core.Path.{_≡_}
-use mathlib.Core.Bool.{Bool, true, false, cond}
+use mathlib.Core.Bool.{true, false, cond}
 use Prim.Native.Nat.{ℕ, zero, suc, _≤_}
 use lib.Dec.{eqb, leb}
 use Rattle.balanced.specs.declared.Kind.{Kind}

@@ -1,5 +1,5 @@
 -- `surveys::plan_listed` meets its contract. Assumes nothing.
-use mathlib.Core.Path.{_≡_, sym, ap, _∙_}
+use mathlib.Core.Path.{sym, ap, _∙_}
 use lib.Seq.{sets}
 use native.Mathlib.Omega.{arith}
 use Rattle.refusals.proofs.Answering.{verdict}

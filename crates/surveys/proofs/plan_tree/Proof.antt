@@ -1,11 +1,9 @@
 -- `surveys::plan_tree` meets its contract. Assumes nothing.
-use mathlib.Core.Path.{_≡_, refl, sym, ap, _∙_}
-use mathlib.Core.List.{List}
+use mathlib.Core.Path.{refl, sym, ap, _∙_}
 use Prim.Native.Nat.{_+_, _≤_}
 use native.Mathlib.Omega.{arith}
-use lib.ListN.{take}
 use lib.Seq.{sets, length-take-le}
-use Rattle.tree.specs.Tree.{Tree, treeOf}
+use Rattle.tree.specs.Tree.{Tree}
 use Rattle.tree.specs.Outcome.{Outcome}
 use Rattle.surveys.specs.Plans.{answer, written}
 use Rattle.surveys.specs.Inner.{listedOutcome}

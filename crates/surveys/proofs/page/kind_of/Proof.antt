@@ -2,7 +2,6 @@
 use mathlib.Core.Path.{sym, _∙_}
 use native.Mathlib.Omega.{arith}
 use Rattle.surveys.proofs.Routing.{kind-sink, kind-down, kind-up, kind-end}
-use borrow.Author.Needs.{needs}
 use Rattle.surveys.proofs.page.kind_of.Statement.{statement}
 use Rattle.surveys.proofs.page.kind_of.Tie as tie
 

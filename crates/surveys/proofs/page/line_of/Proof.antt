@@ -1,9 +1,7 @@
 -- `surveys::page::line_of` meets its contract. Assumes nothing.
-use mathlib.Core.Path.{_≡_, refl, _∙_}
 use native.Mathlib.Omega.{arith}
 use Rattle.surveys.specs.Tables.{loadIn}
 use Rattle.surveys.proofs.Paging.{line-made}
-use borrow.Author.Needs.{needs}
 use Rattle.surveys.proofs.page.line_of.Statement.{statement}
 use Rattle.surveys.proofs.page.line_of.Tie as tie
 

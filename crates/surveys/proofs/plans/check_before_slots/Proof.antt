@@ -1,5 +1,5 @@
 -- `surveys::plans::check_before_slots` meets its contract. Assumes nothing.
-use mathlib.Core.Path.{_≡_, sym, _∙_}
+use mathlib.Core.Path.{sym, _∙_}
 use Rattle.surveys.specs.Inner.{shape}
 use Rattle.surveys.proofs.Answers.{sink-first, three-four-next, six-next, kept-checked}
 use borrow.Author.Needs.{needs}

@@ -1,19 +1,16 @@
 -- `surveys::plans::plan_checked` meets its contract. Assumes nothing.
 use mathlib.Core.List.{List}
 use Prim.Native.Nat.{_-_, _≤_}
-use mathlib.Core.Path.{_≡_, refl, sym, ap, _∙_}
+use mathlib.Core.Path.{refl, sym, ap, _∙_}
 use native.Mathlib.Omega.{arith}
 use lib.ListN.{length}
 use lib.Seq.{sets}
 use Rattle.refusals.proofs.Answering.{verdict}
-use Rattle.links.specs.declared.Timing.{Timing}
-use Rattle.balanced.specs.Times.{timingOf}
 use Rattle.planner.proofs.TimesMade.{timing-fits}
 use Rattle.report.specs.TreeText.{treeText}
 use Rattle.tree.specs.declared.NodeLine.{NodeLine}
 use Rattle.tree.specs.Tree.{treeOf}
 use Rattle.tree.specs.Lines.{lines}
-use Rattle.surveys.specs.Inner.{Room}
 use Rattle.surveys.proofs.Tabled.{Tabled, given, tabled}
 use Rattle.surveys.proofs.Answers.{slots-broken, slots-kept, refused-answer, refused-short, refused-put, planned-answer, planned-put}
 use borrow.Author.Needs.{needs}

@@ -4,7 +4,6 @@ use native.Mathlib.Omega.{arith}
 use Rattle.planner.proofs.Conditions.{one-shifted}
 use Rattle.surveys.specs.Inner.{shape}
 use Rattle.surveys.proofs.Answers.{routers-over, routers-in}
-use borrow.Author.Needs.{needs}
 use Rattle.surveys.proofs.plans.superframes_fit.Statement.{statement}
 use Rattle.surveys.proofs.plans.superframes_fit.Tie as tie
 

@@ -1,7 +1,6 @@
 -- `surveys::routes::route_at` meets its contract. Assumes nothing.
 use native.Mathlib.Omega.{arith}
 use Rattle.surveys.proofs.Routing.{route-some, route-none}
-use borrow.Author.Needs.{needs}
 use Rattle.surveys.proofs.routes.route_at.Statement.{statement}
 use Rattle.surveys.proofs.routes.route_at.Tie as tie
 

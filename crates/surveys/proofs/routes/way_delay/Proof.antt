@@ -1,8 +1,8 @@
 -- `surveys::routes::way_delay` meets its contract. Assumes nothing.
-use mathlib.Core.Path.{_≡_, sym, ap, _∙_}
+use mathlib.Core.Path.{_≡_}
 use Prim.Native.Nat.{_+_, _≤_, _<_}
 use native.Mathlib.Omega.{arith}
-use lib.ListN.{length, getD}
+use lib.ListN.{length}
 use Rattle.surveys.specs.Tables.{wayIn}
 use Rattle.surveys.proofs.Routing.{ahead, way-at-sink, way-on, next-known, ahead-falls, way-fits}
 use Rattle.surveys.proofs.routes.way_delay.Statement.{statement}

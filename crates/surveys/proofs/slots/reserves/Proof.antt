@@ -2,7 +2,6 @@
 use mathlib.Core.Path.{sym, _∙_}
 use native.Mathlib.Omega.{arith}
 use Rattle.surveys.proofs.Reserving.{sink-reserves-none, reserves-here, reserves-elsewhere}
-use borrow.Author.Needs.{needs}
 use Rattle.surveys.proofs.slots.reserves.Statement.{statement}
 use Rattle.surveys.proofs.slots.reserves.Tie as tie
 

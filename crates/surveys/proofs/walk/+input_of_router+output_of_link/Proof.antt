@@ -5,15 +5,14 @@ use mathlib.Core.Bool.{true, false}
 use mathlib.Core.List.{List}
 use Prim.Native.Nat.{ℕ, _+_, _-_, _*_, _≤_, _<_}
 use native.Mathlib.Omega.{arith}
-use lib.ListN.{length, getD, set, length-set}
-use borrow.Author.Needs.{needs}
+use lib.ListN.{length, length-set}
 use borrow.Fn.Kinds.{In}
 use borrow.Fn.PlainCycle.{Measures, is, falls, and}
 use Rattle.links.specs.declared.Load.{Load}
 use Rattle.links.specs.declared.Timing.{Timing}
 use Rattle.links.specs.Link.{plus, loadUpTo64}
 use Rattle.tree.specs.Tree.{treeOf, feeds}
-use Rattle.tree.specs.Loads.{inputOf, outputOf}
+use Rattle.tree.specs.Loads.{inputOf}
 use Rattle.tree.proofs.Steps as steps
 use Rattle.surveys.proofs.Turns.{soFar, none-yet, more, same, part-fits, output-made}
 use Rattle.surveys.proofs.Notes.{NotedTo, noted-none, noted-more, noted-same, noted-end}

@@ -1,6 +1,6 @@
 -- `surveys::walk::sensor_load` meets its contract. Assumes nothing.
-use mathlib.Core.Path.{_≡_, refl, ap, _∙_}
-use Prim.Native.Nat.{_*_, _≤_, _<_, _^_}
+use mathlib.Core.Path.{refl, _∙_}
+use Prim.Native.Nat.{_*_, _≤_, _<_}
 use native.Mathlib.Nat.{mul-le-mul}
 use native.Mathlib.Omega.{arith}
 use borrow.Author.Needs.{needs}

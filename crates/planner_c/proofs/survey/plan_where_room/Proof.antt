@@ -1,0 +1,49 @@
+-- `planner_c::survey::plan_where_room` meets its contract. Assumes nothing.
+use mathlib.Core.Path.{_≡_, sym, ap, _∙_}
+use native.Mathlib.Omega.{arith}
+use Rattle.planner.specs.declared.Plan.{Plan}
+use Rattle.planner_c.proofs.TreeRooms.{plan-left, plan-short}
+use borrow.Author.Needs.{needs}
+use Rattle.planner_c.proofs.survey.plan_where_room.Statement.{statement}
+use Rattle.planner_c.proofs.survey.plan_where_room.Tie as tie
+
+slice-aggregate-plan-tree : tie.Need-slice-aggregate-plan-tree
+slice-aggregate-plan-tree c = search needs
+
+plan-tree-requires : tie.Need-plan-tree-requires
+plan-tree-requires c κs = search needs
+
+refused-requires : tie.Need-refused-requires
+refused-requires c κs = search needs
+
+returns : tie.Need-returns
+returns c = let a = c .before .before .before .before .before .before .before .args in plan-short (a .nodes .now) (a .b) (a .sink) (c .before .before .before .plan-tree .result) (c .before .before .before .plan-tree .ensures .0) (a .out .now) _ (c .before .if1 .taken) (c .refused .ensures)
+
+plan-tree-requires-2 : tie.Need-plan-tree-requires-2
+plan-tree-requires-2 c κs = search needs
+
+answer-of-requires : tie.Need-answer-of-requires
+answer-of-requires c κs = search needs
+
+same-length : tie.Need-same-length
+same-length c = search needs
+
+returns-2 : tie.Need-returns-2
+returns-2 c =
+    let a = c .before .before .before .before .before .before .before .before .before .before .before .args in
+    let w = c .before .before .before .plan-tree2 in
+    let z : w .result .length ≡ c .before .before .before .before .before .before .before .plan-tree .result .length = ap (λ (x : Plan). x .length) (w .ensures .0 ∙ sym (c .before .before .before .before .before .before .before .plan-tree .ensures .0)) in
+    plan-left (a .nodes .now) (a .b) (a .sink) (w .result) (w .ensures .0) (a .out .now) _ _ (omega (arith, z, c .before .before .before .before .before .if1 .left)) (c .answer-of .ensures) (w .ensures .1 .1 .0)
+
+pub plan-where-room-spec : {M : Type 1} → statement M
+plan-where-room-spec =
+    tie.close
+    (tie.spec
+    slice-aggregate-plan-tree
+    plan-tree-requires
+    refused-requires
+    returns
+    plan-tree-requires-2
+    answer-of-requires
+    same-length
+    returns-2)

@@ -1,0 +1,40 @@
+-- `planner_c::survey::planner_check_tree` meets its contract. Assumes nothing.
+use mathlib.Core.Path.{ap, _∙_}
+use Rattle.settings.specs.declared.Settings.{Settings}
+use Rattle.tree.specs.Beside.{beside}
+use Rattle.nodes.specs.Survey.{outcomeIn}
+use Rattle.surveys.specs.Plans.{answer}
+use Rattle.planner_c.proofs.TreeRooms.{plan-told, check-short}
+use borrow.Author.Needs.{needs}
+use Rattle.planner_c.proofs.survey.planner_check_tree.Statement.{statement}
+use Rattle.planner_c.proofs.survey.planner_check_tree.Tie as tie
+
+beside-requires : tie.Need-beside-requires
+beside-requires c κs = search needs
+
+slice-aggregate-plan-tree : tie.Need-slice-aggregate-plan-tree
+slice-aggregate-plan-tree c = search needs
+
+plan-tree-requires : tie.Need-plan-tree-requires
+plan-tree-requires c κs = search needs
+
+answer-of-requires : tie.Need-answer-of-requires
+answer-of-requires c κs = search needs
+
+returns : tie.Need-returns
+returns c =
+    let a = c .before .before .before .before .before .before .args in
+    let w = c .before .before .plan-tree in
+    let e = w .ensures .0 ∙ ap (λ (s : Settings). answer (outcomeIn (a .nodes .now) s (a .sink))) (c .before .before .before .before .beside .ensures) in
+    let b = beside (a .bo) (a .so) (a .head) (a .payload) (a .ack) in
+    (plan-told (a .nodes .now) b (a .sink) (w .result) e _ (c .answer-of .ensures), check-short (a .nodes .now) b (a .sink) (w .result) e _ (c .answer-of .ensures) (w .ensures .1 .0))
+
+pub planner-check-tree-spec : {M : Type 1} → statement M
+planner-check-tree-spec =
+    tie.close
+    (tie.spec
+    beside-requires
+    slice-aggregate-plan-tree
+    plan-tree-requires
+    answer-of-requires
+    returns)

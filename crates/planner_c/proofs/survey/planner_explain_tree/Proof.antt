@@ -1,0 +1,76 @@
+-- `planner_c::survey::planner_explain_tree` meets its contract. Assumes nothing.
+use mathlib.Core.Path.{ap, sym, _∙_}
+use native.Mathlib.Omega.{arith}
+use lib.ListN.{replicate}
+use lib.Seq.{length-take-le}
+use Rattle.buffer.proofs.Putting.{put-front}
+use Rattle.settings.specs.declared.Settings.{Settings}
+use Rattle.planner.specs.declared.Plan.{Plan}
+use Rattle.tree.specs.Beside.{beside}
+use Rattle.nodes.specs.Survey.{outcomeIn}
+use Rattle.surveys.specs.Plans.{answer}
+use Rattle.planner_c.specs.Trees.{treeSpoken, explainTree}
+use Rattle.planner_c.proofs.TreeRooms.{plan-told, line-again}
+use borrow.Author.Needs.{needs}
+use Rattle.planner_c.proofs.survey.planner_explain_tree.Statement.{statement}
+use Rattle.planner_c.proofs.survey.planner_explain_tree.Tie as tie
+
+beside-requires : tie.Need-beside-requires
+beside-requires c κs = search needs
+
+slice-aggregate-plan-tree : tie.Need-slice-aggregate-plan-tree
+slice-aggregate-plan-tree c = search needs
+
+plan-tree-requires : tie.Need-plan-tree-requires
+plan-tree-requires c κs = search needs
+
+answer-of-requires : tie.Need-answer-of-requires
+answer-of-requires c κs = search needs
+
+slice-aggregate-put-tree-verdict : tie.Need-slice-aggregate-put-tree-verdict
+slice-aggregate-put-tree-verdict c = search needs
+
+put-tree-verdict-requires : tie.Need-put-tree-verdict-requires
+put-tree-verdict-requires c κs = search needs
+
+array-share-prefix-line : tie.Need-array-share-prefix-line
+array-share-prefix-line c = search needs
+
+slice-aggregate-leave : tie.Need-slice-aggregate-leave
+slice-aggregate-leave c = let p = c .before .before .put-tree-verdict in sym (length-take-le (p .result) (p .last .0) (omega (arith, p .ensures .1 .0, p .kept .0)))
+
+leave-requires : tie.Need-leave-requires
+leave-requires c κs = search needs
+
+same-length : tie.Need-same-length
+same-length c = search needs
+
+returns : tie.Need-returns
+unfolding explainTree
+returns c =
+    let a = c .before .before .before .before .before .before .before .before .before .before .before .before .before .before .before .args in
+    let b = beside (a .bo) (a .so) (a .head) (a .payload) (a .ack) in
+    let plan = c .before .before .before .before .before .before .before .before .before .before .plan-tree in
+    let q = plan .ensures .0 ∙ ap (λ (s : Settings). answer (outcomeIn (a .nodes .now) s (a .sink))) (c .before .before .before .before .before .before .before .before .before .before .before .before .beside .ensures) in
+    let t = plan-told (a .nodes .now) b (a .sink) (plan .result) q _ (c .before .before .before .before .before .before .before .before .answer-of .ensures) in
+    let p = c .before .before .before .before .before .before .put-tree-verdict in
+    let v = ap (λ (x : Plan). treeSpoken (x .verdict)) q in
+    let e = put-front (p .last .0) (replicate 160 0) _ (p .result) (p .ensures .0) (omega (arith, p .ensures .1 .0)) (p .ensures .1 .1) ∙ v in
+    let l = rw (e, t) at (c .before .before .leave .ensures) in
+    (l, line-again (a .nodes .now) b (a .sink) (a .out .now) _ _ l (omega (arith, c .before .before .leave .ok)))
+
+pub planner-explain-tree-spec : {M : Type 1} → statement M
+planner-explain-tree-spec =
+    tie.close
+    (tie.spec
+    beside-requires
+    slice-aggregate-plan-tree
+    plan-tree-requires
+    answer-of-requires
+    slice-aggregate-put-tree-verdict
+    put-tree-verdict-requires
+    array-share-prefix-line
+    slice-aggregate-leave
+    leave-requires
+    same-length
+    returns)

@@ -1,0 +1,61 @@
+-- `planner_c::survey::planner_plan_tree` meets its contract. Assumes nothing.
+use mathlib.Core.Path.{ap, _∙_}
+use native.Mathlib.Omega.{arith}
+use lib.Seq.{sets}
+use Rattle.settings.specs.declared.Settings.{Settings}
+use Rattle.tree.specs.Beside.{beside}
+use Rattle.nodes.specs.Survey.{outcomeIn}
+use Rattle.surveys.specs.Plans.{answer, written}
+use Rattle.planner_c.specs.Trees.{planTree}
+use Rattle.planner_c.proofs.TreeRooms.{plan-left, promised-left}
+use borrow.Author.Needs.{needs}
+use Rattle.planner_c.proofs.survey.planner_plan_tree.Statement.{statement}
+use Rattle.planner_c.proofs.survey.planner_plan_tree.Tie as tie
+
+beside-requires : tie.Need-beside-requires
+beside-requires c κs = search needs
+
+plan-where-room-requires : tie.Need-plan-where-room-requires
+plan-where-room-requires c κs = search needs
+
+same-length : tie.Need-same-length
+same-length c = search needs
+
+returns : tie.Need-returns
+returns c =
+    let a = c .before .before .before .before .before .before .before .before .args in
+    let b = beside (a .bo) (a .so) (a .head) (a .payload) (a .ack) in
+    let e = c .before .before .plan-where-room .ensures ∙ ap (λ (s : Settings). planTree (a .nodes .now) s (a .sink) (a .out .now)) (c .before .before .before .before .before .beside .ensures) in
+    (e, promised-left (a .nodes .now) b (a .sink) (a .out .now) _ _ e)
+
+plan-tree-requires : tie.Need-plan-tree-requires
+plan-tree-requires c κs = search needs
+
+answer-of-requires : tie.Need-answer-of-requires
+answer-of-requires c κs = search needs
+
+same-length-2 : tie.Need-same-length-2
+same-length-2 c = search needs
+
+returns-2 : tie.Need-returns-2
+returns-2 c =
+    let a = c .before .before .before .before .before .before .before .before .before .args in
+    let b = beside (a .bo) (a .so) (a .head) (a .payload) (a .ack) in
+    let w = c .before .before .before .plan-tree in
+    let q = w .ensures .0 ∙ ap (λ (s : Settings). answer (outcomeIn (a .nodes .now) s (a .sink))) (c .before .before .before .before .before .before .beside .ensures) in
+    let p = w .ensures .1 .1 .0 ∙ ap (λ (s : Settings). sets (a .out .now) 0 (written (outcomeIn (a .nodes .now) s (a .sink)))) (c .before .before .before .before .before .before .beside .ensures) in
+    let e = plan-left (a .nodes .now) b (a .sink) (w .result) q (a .out .now) _ _ (omega (arith, c .before .before .before .before .before .if1 .left, w .ensures .1 .0)) (c .answer-of .ensures) p in
+    (e, promised-left (a .nodes .now) b (a .sink) (a .out .now) _ _ e)
+
+pub planner-plan-tree-spec : {M : Type 1} → statement M
+planner-plan-tree-spec =
+    tie.close
+    (tie.spec
+    beside-requires
+    plan-where-room-requires
+    same-length
+    returns
+    plan-tree-requires
+    answer-of-requires
+    same-length-2
+    returns-2)
