@@ -1,7 +1,7 @@
 /*
  * planner.h: reservations, queue sizes and delays of a cluster tree of battery radios, for programs in C.
  *
- * A row of settings goes in as bytes; the plan comes out as text in a buffer that the caller lends. There is no state, no memory is
+ * A row of settings, or the node list of a surveyed tree, goes in as bytes; the plan comes out as text in a buffer that the caller lends. There is no state, no memory is
  * allocated, nothing is read or written but what is handed over, and every call returns. What each call answers and leaves is proved
  * (docs/TRUST.md); what the caller has to see to is listed below.
  *
@@ -11,6 +11,11 @@
  *         fwrite(text, 1, a.length, stdout);
  *     else
  *         printf("R %u %u\n", (unsigned)a.number, (unsigned)a.place);
+ *
+ * and of a surveyed tree, whose nodes are listed one by one:
+ *
+ *     uint8_t text[PLANNER_LONGEST_TREE_TEXT];
+ *     planner_answer a = planner_plan_tree(nodes, nodes_length, bo, so, head, data, ack, sink, text, sizeof text);
  *
  * and, for people, one line of English:
  *
@@ -26,6 +31,15 @@
  *             as 8 4 1 2 1 0 0 1 1 19 7 0
  *
  *     Neither needs a 0 byte at its end, and a line end or a 0 byte inside is a byte like any other (no name, no digit).
+ *
+ * Node lists
+ *
+ *     nodes   a text of lines, each ended by a line feed (the last may lack it): NODE PARENT BURST RATE, and then 1 to 254
+ *             node lines of four values, written as a row's are, as 2 1 0 0 or 5 2 1 12.
+ *             NODE counts 1, 2, ..; node 1 is the root and has PARENT 0, any other parent is an earlier node; BURST and RATE
+ *             are those of the node's own sensor, 1 to 255 and 1 to 4095, or both 0 where it has none.
+ *     beside  bo, so, head, data and ack as in a row; sink is the node that all readings go to. It must be a router: node 1 or
+ *             a node with children.
  *
  * Answers
  *
@@ -43,7 +57,21 @@
  *                    line_length is less than the line's)
  *                 The first that applies, in this order.
  *
- * The text has a header line and one line for each kind of link, each ended by a line feed, and no 0 byte at its end.
+ *     For node lists, in this order:
+ *                 10 the line of names differs or is missing     place 0
+ *                 10 a node line breaks a rule, or the first is  its line: node 1's is 1
+ *                    missing
+ *                 10 the sink is no router of the tree           place 0
+ *                 3  a number beside is outside its range        its column in a row: bo 1, so 2, head 10, data 11, ack 12
+ *                 4  so > bo; head + data > 127                  2; 11
+ *                 6  more routers than superframes fit           0
+ *                 5  more than 7 reservations at a router, or    that router's node, the first one
+ *                 7  its slots used exceed those reservable
+ *                 8  text_length is less than the text's length  0
+ *
+ * The text has a header line and one line for each kind of link, each ended by a line feed, and no 0 byte at its end. That of a node list
+ * has a line for each node, in the nodes' order, with a tenth column, ROUTE: the delay of the node's frames over their whole way to the
+ * sink. The longest time from any reading to the sink is the largest ROUTE.
  *
  * Lines of English
  *
@@ -53,18 +81,20 @@
  *         The slots used at depth 0 are more than can be reserved: 10 used and 7 reservable.
  *
  *     with the column's name or the depth, and the values that were compared. Number and place can be had again from it
- *     (planner_read_reason). Reasons of 1 to 7 come from planner_explain_row. Number 8 of planner_plan_row concerns no value of the row:
- *     planner_explain_refusal(8, 0, ..) puts its line, and likewise that of 9, which programs give that limit their input.
+ *     (planner_read_reason). Reasons of 1 to 7 come from planner_explain_row, those of node lists from planner_explain_tree. Number 8 of
+ *     planner_plan_row and planner_plan_tree concerns no value that was handed over: planner_explain_refusal(8, 0, ..) puts its line, and
+ *     likewise that of 9, which programs give that limit their input.
  *
  * What the caller sees to
  *
- *     - Each pointer is valid for as many bytes as the length beside it: names, row and a line that is read for reading, text and a line
- *       that is put for reading and writing.
- *     - A pointer beside length 0 is not used and may be NULL: no names (1), a row without values (2, place 1), no room for a text or a
- *       line (8), a line that is no reason.
+ *     - Each pointer is valid for as many bytes as the length beside it: names, row, nodes and a line that is read for reading, text and
+ *       a line that is put for reading and writing.
+ *     - A pointer beside length 0 is not used and may be NULL: no names (1), a row without values (2, place 1), no nodes (10), no room for
+ *       a text or a line (8), a line that is no reason.
  *     - What is written does not overlap what is read, and nobody else changes any of it during the call.
  *     - No length is above PTRDIFF_MAX (no object of C is).
- *     - 16 KB of stack are free (under 10 KB were measured, for a tree of 12 depths).
+ *     - 16 KB of stack are free (under 10 KB were measured, for a tree of 12 depths); for the entries for trees 128 KB (under 97 KB were
+ *       measured, for a chain of 254 nodes).
  *
  * Calls may be made from several threads at once, each with its own buffer.
  */
@@ -81,12 +111,15 @@ extern "C" {
 /* No plan's text is longer: a buffer of this length is never refused with 8. */
 #define PLANNER_LONGEST_TEXT 4476
 
+/* No text of a node list's plan is longer: a buffer of this length is never refused with 8. */
+#define PLANNER_LONGEST_TREE_TEXT 48576
+
 /* No line of English is longer: a buffer of this length is never refused with 8. */
 #define PLANNER_LONGEST_REASON 160
 
 typedef struct planner_answer {
     uint32_t number; /* 0: planned; else the refusal's number */
-    uint32_t place;  /* the refusal's place: a column, a depth, or 0 */
+    uint32_t place;  /* the refusal's place: a column, a depth, a line, a node, or 0 */
     uint64_t length; /* the text's length in bytes; 0 where refused */
 } planner_answer;
 
@@ -114,6 +147,27 @@ planner_answer planner_plan_row(const uint8_t *names, size_t names_length, const
  */
 planner_answer planner_explain_row(const uint8_t *names, size_t names_length, const uint8_t *row, size_t row_length, uint8_t *line,
                                    size_t line_length);
+
+/*
+ * Plans the tree of a node list and writes nothing: number, place and the length of the plan's text. Number 8 is never answered.
+ */
+planner_answer planner_check_tree(const uint8_t *nodes, size_t nodes_length, uint32_t bo, uint32_t so, uint32_t head, uint32_t data,
+                                  uint32_t ack, uint32_t sink);
+
+/*
+ * Plans the tree of a node list and puts the plan's text at the front of text; the bytes behind it keep their values. Where it is refused,
+ * also with 8, every byte of text keeps its value. text_length may be 0; the text's own length is enough, and
+ * PLANNER_LONGEST_TREE_TEXT spares planning twice.
+ */
+planner_answer planner_plan_tree(const uint8_t *nodes, size_t nodes_length, uint32_t bo, uint32_t so, uint32_t head, uint32_t data,
+                                 uint32_t ack, uint32_t sink, uint8_t *text, size_t text_length);
+
+/*
+ * Plans the tree of a node list and puts one line of English at the front of line: why it is refused, or 'The tree is planned.'. Otherwise
+ * as planner_explain_row.
+ */
+planner_answer planner_explain_tree(const uint8_t *nodes, size_t nodes_length, uint32_t bo, uint32_t so, uint32_t head, uint32_t data,
+                                    uint32_t ack, uint32_t sink, uint8_t *line, size_t line_length);
 
 /*
  * Puts the line of a refusal that number and place alone determine: 1, 8 and 9, each at place 0. The answer is 0, 0 and the line's

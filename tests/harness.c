@@ -1,6 +1,6 @@
 /*
  * harness.c: calls the planner from C and checks what each call answers and leaves against planner.h, document 01 and
- * requests E1 (a refusal as one English line) and E2 (the beacon takes its time too) of document 02.
+ * requests of document 02: E1 (a refusal as one English line), E2 (the beacon takes its time too), E3 (surveyed trees).
  *
  *     harness ROWS.TXT SEED CALLS
  *
@@ -10,8 +10,9 @@
  * 3. Pointers that are NULL, or that point to memory nobody may touch, each beside length 0.
  * 4. The deepest rows, in a thread with little stack.
  * 5. Refusals that are given by number and place.
+ * 6. Surveyed trees: P2 as a list, noise, NULL, the longest chain in a thread with little stack.
  *
- * In the first four parts each row is also put into words, and the words are read back.
+ * In all parts but the fifth each row or list is also put into words, and the words are read back.
  *
  * The library is not built with the sanitizers. So that a byte read or written outside is seen nevertheless, names,
  * row, text and line each lie in memory of their own between two pages that nobody may touch, close against one of
@@ -39,6 +40,7 @@
 
 #define LONGEST_FILE 65536 /* number 9 of document 01: the program takes no more */
 #define LONGEST_NOISE 16384
+#define LONGEST_TREE_LOAN 49000 /* a little more than the longest text of a tree */
 #define LONGEST_LOAN 4600 /* a little more than the longest text */
 #define LONGEST_LINE 400  /* more than the longest line */
 #define WATCH_SECONDS 60  /* "every call returns": so long we wait for it */
@@ -87,6 +89,7 @@ static struct {
     size_t text_length, line_length;
     planner_answer check, plan, explain;
     planner_refusal asked, read;
+    uint32_t beside[6]; /* in part 6, where the list is reported as the row: BO SO HEAD DATA ACK SINK */
 } now = {.part = "start"};
 
 /* How often planner_plan_row and planner_explain_row gave each number, and how many lines were read. */
@@ -192,6 +195,12 @@ static void report_call(void)
     say_answer("planner_explain_row or planner_explain_refusal, latest answer", now.explain);
     say_refusal("planner_explain_refusal, latest call", now.asked);
     say_refusal("planner_read_reason, latest answer", now.read);
+    say("beside a list:");
+    for (size_t i = 0; i < 6; i++) {
+        say(" ");
+        say_number(now.beside[i]);
+    }
+    say("\n");
     send_report();
 }
 
@@ -242,8 +251,11 @@ static uint8_t *spot(const struct region *region, size_t length, bool in_front)
     return in_front ? region->bytes : region->bytes + (region->size - length);
 }
 
-/* Memory for a thread's stack; the fence is moved up to the bytes that are to be free (part 4). */
+/* Memory for a thread's stack; the fence is moved up to the bytes that are to be free (parts 4 and 6). */
 static struct region stack_region = {.name = "the thread's stack"};
+
+/* Memory for a tree's text (part 6). */
+static struct region tree_region = {.name = "the tree's text"};
 
 /* ---- Faults and calls that do not return ---- */
 
@@ -275,12 +287,12 @@ static const char *name_of_signal(int number)
 
 static void on_signal(int number, siginfo_t *info, void *context)
 {
-    const struct region *regions[] = {&names_region, &row_region,    &text_region,
-                                      &line_region,  &reason_region, &stack_region};
+    const struct region *regions[] = {&names_region,  &row_region,   &text_region, &line_region,
+                                      &reason_region, &stack_region, &tree_region};
     (void)context;
     say("FAILED: ");
     say(name_of_signal(number));
-    for (size_t i = 0; i < 6 && (number == SIGSEGV || number == SIGBUS); i++) {
+    for (size_t i = 0; i < sizeof regions / sizeof regions[0] && (number == SIGSEGV || number == SIGBUS); i++) {
         const char *place = place_of_fault(regions[i], (uintptr_t)info->si_addr);
         if (place != NULL) {
             say(place);
@@ -1142,10 +1154,11 @@ static void nothing_handed_over(void)
  * sanitizer: it raises any smaller size to 128 KB and what it needs itself, without saying so. So the thread gets more,
  * and once it runs, all of its stack that is more than 16 KB below its own frame is made inaccessible (the fence).
  * Only whole pages can be, so up to one page more than 16 KB stays free. Therefore the free part is filled beforehand,
- * and afterwards the lowest changed byte says how much was used: it must be 16 KB or less.
+ * and afterwards the lowest changed byte says how much was used: it must be 16 KB or less. For trees (part 6) it is
+ * more than 16 KB.
  */
 #define FREE_STACK 16384
-#define WHOLE_STACK (32 * FREE_STACK)
+#define MORE_STACK (31 * FREE_STACK) /* for the thread, beside what is free at the call */
 #define STACK_FILL 0xa5
 #define KEPT_STACK 1024 /* not filled: the filling function's own frame lies there */
 #define DEEP_ROWS 4
@@ -1160,7 +1173,8 @@ static struct deep_row {
 
 static uint8_t deep_text[PLANNER_LONGEST_TEXT], deep_line[PLANNER_LONGEST_REASON];
 static const char *deep_failure;
-static size_t deep_free, deep_used;
+static size_t deep_allowed, deep_free, deep_used;
+static void (*deep_work)(void);
 
 static planner_answer check_deep_row(const struct deep_row *deep)
 {
@@ -1212,8 +1226,8 @@ static void make_deep_rows(void)
 static uint8_t *raise_fence(const uint8_t *frame)
 {
     size_t above = (size_t)(stack_region.bytes + stack_region.size - frame);
-    size_t fenced = (stack_region.size - above - FREE_STACK) / page * page;
-    if (above + FREE_STACK > stack_region.size || mprotect(stack_region.bytes, fenced, PROT_NONE) != 0)
+    size_t fenced = (stack_region.size - above - deep_allowed) / page * page;
+    if (above + deep_allowed > stack_region.size || mprotect(stack_region.bytes, fenced, PROT_NONE) != 0)
         stop("the thread's stack");
     return stack_region.bytes + fenced;
 }
@@ -1261,14 +1275,19 @@ static void explain_deep(const struct deep_row *deep)
         deep_failure = "with little stack the line of number 8 is another";
 }
 
-static void *deep_calls(void *unused)
+static void call_deep_rows(void)
 {
-    uint8_t *frame = __builtin_frame_address(0), *low = raise_fence(frame);
-    fill_stack(low, frame - KEPT_STACK);
     for (now.call = 1; now.call <= DEEP_CALLS && deep_failure == NULL; now.call++) {
         call_deep(&deep_rows[now.call % DEEP_ROWS]);
         explain_deep(&deep_rows[now.call % DEEP_ROWS]);
     }
+}
+
+static void *deep_calls(void *unused)
+{
+    uint8_t *frame = __builtin_frame_address(0), *low = raise_fence(frame);
+    fill_stack(low, frame - KEPT_STACK);
+    deep_work();
     deep_free = (size_t)(frame - low);
     deep_used = (size_t)(frame - lowest_changed(low, frame));
     protect(&stack_region, PROT_READ | PROT_WRITE);
@@ -1283,14 +1302,14 @@ static void *deep_thread(void *unused)
     return deep_calls(unused);
 }
 
-static void little_stack(void)
+/* Makes these calls in a thread in which so many bytes of stack are free. */
+static void with_stack(void (*work)(void), size_t allowed)
 {
     pthread_t thread;
     pthread_attr_t how;
-    now.part = "4, little stack";
-    now.call = 0;
-    make_deep_rows();
-    make_region(&stack_region, WHOLE_STACK);
+    deep_work = work;
+    deep_allowed = allowed;
+    make_region(&stack_region, allowed + MORE_STACK);
     alarm(WATCH_SECONDS);
     if (pthread_attr_init(&how) != 0 || pthread_attr_setstack(&how, stack_region.bytes, stack_region.size) != 0 ||
         pthread_create(&thread, &how, deep_thread, NULL) != 0 || pthread_join(thread, NULL) != 0)
@@ -1298,10 +1317,19 @@ static void little_stack(void)
     pthread_attr_destroy(&how);
     if (deep_failure != NULL)
         fail(deep_failure);
-    require(deep_used <= FREE_STACK, "more than 16 KB of stack were used");
-    fprintf(stderr, "stack: %d calls in a thread with a stack of %d bytes, all but %zu below its frame fenced off\n",
-            DEEP_CALLS, WHOLE_STACK, deep_free);
-    fprintf(stderr, "stack: %zu bytes were used, %d are allowed; the rows:\n", deep_used, FREE_STACK);
+    require(deep_used <= allowed, "more stack was used than planner.h says");
+    fprintf(stderr, "stack: a thread with a stack of %zu bytes, all but %zu below its frame fenced off\n",
+            stack_region.size, deep_free);
+    fprintf(stderr, "stack: %zu bytes were used, %zu are allowed\n", deep_used, allowed);
+}
+
+static void little_stack(void)
+{
+    now.part = "4, little stack";
+    now.call = 0;
+    make_deep_rows();
+    with_stack(call_deep_rows, FREE_STACK);
+    fprintf(stderr, "stack: %d calls; the rows:\n", DEEP_CALLS);
     for (size_t i = 0; i < DEEP_ROWS; i++)
         fprintf(stderr, "stack:   %s: number %" PRIu32 ", place %" PRIu32 "\n", deep_rows[i].row,
                 deep_rows[i].expected.number, deep_rows[i].expected.place);
@@ -1353,6 +1381,267 @@ static void refusals(void)
             set_input(&line_input, fixed_line(number, 0), strlen(fixed_line(number, 0)));
             read_between_guards(number % 2 == 0, (planner_refusal){number, 0});
         }
+}
+
+/* ---- Part 6: surveyed trees, request E3 of document 02 ---- */
+
+#define LIST_NAMES "NODE PARENT BURST RATE\n"
+#define TREE_HEADER "KIND DEPTH RATE BURST SLOTS FRAMES LATENCY BUFFER DELAY ROUTE\n"
+#define MOST_NODES 254
+#define TREE_STACK 131072 /* what planner.h says of the entries for trees */
+#define TREE_CALLS 200
+
+#define BESIDE now.beside[0], now.beside[1], now.beside[2], now.beside[3], now.beside[4], now.beside[5]
+
+static uint64_t tree_answered[11];
+
+static void set_beside(uint32_t bo, uint32_t so, uint32_t head, uint32_t data, uint32_t ack, uint32_t sink)
+{
+    uint32_t values[6] = {bo, so, head, data, ack, sink};
+    memcpy(now.beside, values, sizeof values);
+}
+
+static void check_tree_answer(planner_answer a)
+{
+    bool fits = a.place == 0;
+    if (a.number == 3)
+        fits = a.place == 1 || a.place == 2 || (a.place >= 10 && a.place <= 12);
+    else if (a.number == 4)
+        fits = a.place == 2 || a.place == 11;
+    else if (a.number == 5 || a.number == 7)
+        fits = a.place >= 1 && a.place <= MOST_NODES;
+    else if (a.number == 10)
+        fits = a.place <= MOST_NODES + 1;
+    require(a.number <= 10 && a.number != 1 && a.number != 2 && a.number != 9, "a number that no tree gets");
+    require(fits, "a place that does not fit the number");
+    require((a.length > 0) == (a.number == 0), "a length with a refusal, or no length with a plan");
+    require(a.length <= PLANNER_LONGEST_TREE_TEXT, "a length above PLANNER_LONGEST_TREE_TEXT");
+}
+
+/* A header line and a line for each node of row_input, which has one more for its names. */
+static void check_tree_text(const uint8_t *text, size_t length)
+{
+    size_t header = strlen(TREE_HEADER), lines = 0, nodes = row_input.bytes[row_input.length - 1] != '\n';
+    require(length > header && memcmp(text, TREE_HEADER, header) == 0, "the text does not begin with the header line");
+    require(text[length - 1] == '\n', "the text does not end with a line feed");
+    for (size_t i = 0; i < length; i++)
+        lines += text[i] == '\n';
+    for (size_t i = 0; i < row_input.length; i++)
+        nodes += row_input.bytes[i] == '\n';
+    require(lines == nodes, "not a line for each node");
+}
+
+/* What the line of this answer begins with; its values, if it has any, are read but not compared. */
+static void check_tree_line(const uint8_t *line, size_t length, planner_answer a)
+{
+    char start[LONGEST_LINE];
+    size_t n = 0;
+    if (a.number == 0)
+        n = (size_t)snprintf(start, sizeof start, "The tree is planned.");
+    else if (a.number == 3)
+        n = (size_t)snprintf(start, sizeof start, "The value of %s is outside its range: it is ", columns[a.place - 1]);
+    else if (a.number == 4)
+        n = (size_t)snprintf(start, sizeof start, "Values are at odds at %s, which ", columns[a.place - 1]);
+    else if (a.number == 5)
+        n = (size_t)snprintf(start, sizeof start, "Router %" PRIu32 " would have more than 7 reservations: ", a.place);
+    else if (a.number == 6)
+        n = (size_t)snprintf(start, sizeof start, "There are more routers than superframes that fit ");
+    else if (a.number == 7)
+        n = (size_t)snprintf(start, sizeof start, "The slots used at router %" PRIu32 " are more than can", a.place);
+    else if (a.place > 0)
+        n = (size_t)snprintf(start, sizeof start, "Line %" PRIu32 " of the node list breaks a rule or is missing.",
+                             a.place);
+    else
+        n = (size_t)snprintf(start, sizeof start, "The ");
+    require(length <= PLANNER_LONGEST_REASON && length >= n && memcmp(line, start, n) == 0, "not the line that is due");
+    require(line[length - 1] == '.', "a line without its period");
+    read_reason(line, length, (planner_refusal){a.number, a.place});
+}
+
+/* The list's line: in the longest room that a line needs, in its own length, and in one byte less. */
+static void explain_tree_between_guards(const uint8_t *nodes, bool in_front, const uint8_t *fill)
+{
+    size_t rooms[3] = {PLANNER_LONGEST_REASON, 0, 0};
+    for (size_t i = 0; i < 3; i++) {
+        uint8_t *line = spot(&line_region, rooms[i], in_front);
+        now.line_length = rooms[i];
+        memcpy(line_region.bytes, fill, line_region.size);
+        now.explain = planner_explain_tree(nodes, row_input.length, BESIDE, line, rooms[i]);
+        check_rest(&line_region, line, (size_t)now.explain.length, fill);
+        if (i == 2) {
+            require(same_answer(now.explain, too_short), "a line in too little room");
+            return;
+        }
+        require(now.explain.number == now.check.number && now.explain.place == now.check.place,
+                "planner_check_tree and planner_explain_tree do not agree");
+        check_tree_line(line, (size_t)now.explain.length, now.check);
+        rooms[1] = (size_t)now.explain.length;
+        rooms[2] = rooms[1] - 1;
+    }
+}
+
+/* The three entries on row_input, which is the list. The two lowest bits of sides say what lies in front. */
+static void call_tree_between_guards(unsigned sides, const uint8_t *fill, size_t text_length)
+{
+    const uint8_t *nodes = hand_over(&row_region, &row_input, (sides & 1) != 0);
+    uint8_t *text = spot(&tree_region, text_length, (sides & 2) != 0);
+    alarm(WATCH_SECONDS);
+    now.row = (struct slice){row_input.bytes, row_input.length};
+    now.text_length = text_length;
+    memcpy(tree_region.bytes, fill, tree_region.size);
+    now.check = planner_check_tree(nodes, row_input.length, BESIDE);
+    check_tree_answer(now.check);
+    require(now.check.number != 8, "number 8 from planner_check_tree");
+    now.plan = planner_plan_tree(nodes, row_input.length, BESIDE, text, text_length);
+    require(same_answer(now.plan, with_loan(now.check, text_length)),
+            "planner_check_tree and planner_plan_tree do not agree");
+    check_rest(&tree_region, text, (size_t)now.plan.length, fill);
+    if (now.plan.number == 0)
+        check_tree_text(text, (size_t)now.plan.length);
+    tree_answered[now.plan.number]++;
+    explain_tree_between_guards(nodes, (sides & 2) != 0, fill);
+    require(memcmp(nodes, row_input.bytes, row_input.length) == 0, "the list was changed");
+}
+
+/* The same calls twice: the second time at the other guard pages, and with the other filling. */
+static void call_tree_twice(unsigned sides, size_t text_length)
+{
+    static uint8_t first[PLANNER_LONGEST_TREE_TEXT];
+    planner_answer check, plan;
+    call_tree_between_guards(sides, filling[0], text_length);
+    check = now.check;
+    plan = now.plan;
+    memcpy(first, spot(&tree_region, text_length, (sides & 2) != 0), (size_t)plan.length);
+    call_tree_between_guards(sides ^ 3, filling[1], text_length);
+    require(same_answer(check, now.check) && same_answer(plan, now.plan), "the same call was answered in two ways");
+    require(memcmp(first, spot(&tree_region, text_length, (sides & 2) == 0), (size_t)plan.length) == 0,
+            "the same call gave two texts");
+}
+
+/* P2 of document 01 as a list; its text is known to the byte. */
+static void second_plan(void)
+{
+    static const char list[] = LIST_NAMES "1 0 0 0\n2 1 0 0\n3 1 0 0\n4 1 1 1\n5 2 1 1\n6 3 1 1\n";
+    static const char text[] = TREE_HEADER "D 0 2 1226616 1 9 245032 7 381323 381323\n"
+                                           "S 1 3 2207472 0 0 0 9 0 0\n"
+                                           "U 1 1 490792 1 9 245032 3 299565 680888\n"
+                                           "E 1 1 245760 1 9 245032 2 272339 653662\n"
+                                           "E 2 1 245760 1 9 245032 2 272339 272339\n"
+                                           "E 2 1 245760 1 9 245032 2 272339 953227\n";
+    set_input(&row_input, list, strlen(list));
+    set_beside(8, 4, 19, 7, 0, 2);
+    for (size_t length = 0; length <= strlen(text) + 8; length++) {
+        call_tree_twice((unsigned)length, length);
+        require(now.check.length == strlen(text), "not the length of P2 as a list");
+    }
+    call_tree_between_guards(0, filling[0], strlen(text));
+    require(memcmp(spot(&tree_region, strlen(text), false), text, strlen(text)) == 0, "not the text of P2 as a list");
+}
+
+static void add_node(struct input *list, unsigned node, unsigned parent, unsigned burst, unsigned rate)
+{
+    int n = snprintf((char *)list->bytes + list->length, 64, "%u %u %u %u\n", node, parent, burst, rate);
+    list->length += (size_t)n;
+}
+
+/* A chain, a star or any tree, in which some nodes sense. */
+static void likely_list(struct input *list)
+{
+    unsigned count = 1 + (unsigned)below(below(4) == 0 ? MOST_NODES + 1 : 12), kind = (unsigned)below(4);
+    unsigned sparse = 1 + (unsigned)below(8), most = below(3) == 0 ? 255 : 1;
+    set_input(list, LIST_NAMES, strlen(LIST_NAMES));
+    for (unsigned node = 1; node <= count; node++) {
+        unsigned parent = node == 1 ? 0 : kind == 0 ? node - 1 : kind == 1 ? 1 : between(1, node - 1);
+        bool senses = below(sparse) == 0;
+        add_node(list, node, parent, senses ? between(1, 255) : 0, senses ? between(1, most) : 0);
+    }
+    if (below(4) == 0)
+        list->length--;
+}
+
+static void noise_list(struct input *list)
+{
+    size_t kind = below(16);
+    if (kind == 0) {
+        random_bytes(list, below(200));
+    } else if (kind == 1) {
+        long_row(list);
+    } else {
+        likely_list(list);
+        if (kind <= 5)
+            mutate_some(list);
+    }
+}
+
+/* Settings and sinks that mostly fit; else one of them is anything. */
+static void noise_beside(void)
+{
+    uint32_t so = between(0, 9), head = between(5, 60);
+    set_beside(between(so, 14), so, head, between(1, 127 - head), between(0, 1), below(2) == 0 ? 1 : between(1, 12));
+    if (below(4) == 0)
+        now.beside[below(6)] = below(2) == 0 ? (uint32_t)draw() : between(0, 300);
+}
+
+static void tree_noise(uint64_t calls)
+{
+    static const unsigned numbers[] = {0, 3, 4, 5, 6, 7, 8, 10};
+    for (now.call = 1; now.call <= calls; now.call++) {
+        size_t kind = below(4), length;
+        noise_list(&row_input);
+        noise_beside();
+        length = (size_t)planner_check_tree(row_input.bytes, row_input.length, BESIDE).length;
+        length = kind == 0 ? below(LONGEST_TREE_LOAN) : kind == 1 && length > 0 ? length - 1 : length + below(3);
+        call_tree_twice((unsigned)below(4), length);
+    }
+    for (size_t i = 0; i < sizeof numbers / sizeof numbers[0] && calls >= 10000; i++)
+        require(tree_answered[numbers[i]] > 0, "a number that so much noise should have met was never answered");
+}
+
+/* No list: its names are missing. No room for a text or a line: 8. As NULL, or as a pointer that may not be used. */
+static void no_tree(unsigned way)
+{
+    struct slice none = thing(way, NULL, 0);
+    uint8_t *nowhere = (uint8_t *)(uintptr_t)none.at;
+    planner_answer names = {10, 0, 0};
+    set_input(&row_input, LIST_NAMES "1 0 0 0", strlen(LIST_NAMES "1 0 0 0"));
+    set_beside(8, 4, 19, 7, 0, 1);
+    require(same_answer(planner_check_tree(none.at, 0, BESIDE), names), "no list is not refused for its names");
+    require(same_answer(planner_plan_tree(none.at, 0, BESIDE, nowhere, 0), names), "10 does not come before 8");
+    require(same_answer(planner_explain_tree(none.at, 0, BESIDE, nowhere, 0), too_short), "a line without room");
+    require(same_answer(planner_plan_tree(row_input.bytes, row_input.length, BESIDE, nowhere, 0), too_short),
+            "a text without room");
+}
+
+/* A chain of all nodes that a list may have, its sink at each end of it. */
+static void call_deep_trees(void)
+{
+    for (now.call = 1; now.call <= TREE_CALLS; now.call++) {
+        now.beside[5] = now.call % 2 == 0 ? 1 : MOST_NODES - 1;
+        now.check = planner_check_tree(row_input.bytes, row_input.length, BESIDE);
+        now.plan = planner_plan_tree(row_input.bytes, row_input.length, BESIDE, tree_region.bytes, tree_region.size);
+        now.explain = planner_explain_tree(row_input.bytes, row_input.length, BESIDE, deep_line, sizeof deep_line);
+        if (now.check.number != 0 || !same_answer(now.check, now.plan) || now.explain.number != 0)
+            deep_failure = "with little stack the longest chain is not planned";
+    }
+}
+
+static void trees(uint64_t calls)
+{
+    now.part = "6, surveyed trees";
+    now.call = 0;
+    second_plan();
+    tree_noise(calls);
+    no_tree(1);
+    no_tree(2);
+    set_input(&row_input, LIST_NAMES, strlen(LIST_NAMES));
+    for (unsigned node = 1; node <= MOST_NODES; node++)
+        add_node(&row_input, node, node - 1, 255, 1);
+    set_beside(14, 6, 5, 1, 0, 1);
+    with_stack(call_deep_trees, TREE_STACK);
+    fprintf(stderr, "trees: answers by number");
+    for (size_t number = 0; number <= 10; number++)
+        fprintf(stderr, "%s %zu: %" PRIu64, number > 0 ? "," : "", number, tree_answered[number]);
+    fprintf(stderr, "\n");
 }
 
 /* ---- All of it ---- */
@@ -1412,13 +1701,15 @@ int main(int argc, char **argv)
     make_region(&text_region, LONGEST_LOAN);
     make_region(&line_region, LONGEST_LINE);
     make_region(&reason_region, LONGEST_FILE);
-    make_fillings(text_region.size);
+    make_region(&tree_region, LONGEST_TREE_LOAN);
+    make_fillings(tree_region.size);
     catch_signals();
     rows_of_file();
     noise(calls);
     nothing_handed_over();
     little_stack();
     refusals();
+    trees(calls / 10);
     summary();
     return 0;
 }

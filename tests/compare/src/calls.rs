@@ -68,7 +68,7 @@ impl<'a, P: Planner> Calls<'a, P> {
     fn check(&mut self, inputs: &mut Inputs, expected: &Expected) -> Result<(), String> {
         self.totals.calls += 1;
         let answer = self.planner.check_row(inputs.names.lend(), inputs.row.lend());
-        of_check(expected, answer)?;
+        of_check("planner_check_row", expected, answer)?;
         inputs.are_kept()
     }
 

@@ -4,7 +4,9 @@
 //! text's length; the bytes behind it keep their values." The line of a row or a refusal is put in the same way.
 
 use crate::entries::{Answer, Refusal};
-use reference::{line_of, whole_line, write_plan, Outcome, Phrase};
+use reference::{
+    line_of, tree_line_of, whole_line, write_plan, write_tree_plan, Outcome, Phrase, Refusal as Reason, TreeOutcome,
+};
 
 /// Number 8 of document 01's table: the lent buffer is shorter than the text.
 pub const TOO_SHORT: u32 = 8;
@@ -30,7 +32,19 @@ impl Expected {
         Expected::new(outcome, line_of(outcome).into_bytes())
     }
 
-    fn new(outcome: &Outcome, text: Vec<u8>) -> Expected {
+    /// Of planning a surveyed tree.
+    pub fn planning_tree(outcome: &TreeOutcome) -> Expected {
+        let mut text = Vec::new();
+        outcome.iter().for_each(|plan| write_tree_plan(plan, &mut text));
+        Expected::new(outcome, text)
+    }
+
+    /// Of explaining a surveyed tree.
+    pub fn explaining_tree(outcome: &TreeOutcome) -> Expected {
+        Expected::new(outcome, tree_line_of(outcome).into_bytes())
+    }
+
+    fn new<T>(outcome: &Result<T, Reason>, text: Vec<u8>) -> Expected {
         let (number, place) = outcome.as_ref().map_or_else(|refusal| (refusal.number, refusal.place), |_| (0, 0));
         Expected { number, place, text }
     }
@@ -56,7 +70,7 @@ impl Expected {
         }
     }
 
-    /// The answer of `planner_check_row`, which has no buffer that could be too short.
+    /// The answer of `planner_check_row` or `planner_check_tree`, which have no buffer that could be too short.
     pub fn checked(&self) -> Answer {
         self.answer(usize::MAX)
     }
@@ -85,9 +99,9 @@ pub struct Found<'a> {
     pub room: usize,
 }
 
-/// How a call of `planner_check_row` differs from what is expected.
-pub fn of_check(expected: &Expected, answer: Answer) -> Result<(), String> {
-    of_answers(expected.checked(), answer).map_err(|report| format!("planner_check_row: {report}"))
+/// How a call of this entry, which has no buffer, differs from what is expected.
+pub fn of_check(entry: &str, expected: &Expected, answer: Answer) -> Result<(), String> {
+    of_answers(expected.checked(), answer).map_err(|report| format!("{entry}: {report}"))
 }
 
 /// How a call of this entry with a lent buffer differs from what is expected.
@@ -216,10 +230,11 @@ mod tests {
         let expected = plan(REFUSED);
         let right = expected.checked();
         assert_eq!(right, Answer { number: 7, place: 0, length: 0 });
-        assert_eq!(of_check(&expected, right), Ok(()));
-        assert!(of_check(&expected, Answer { number: 6, ..right }).is_err());
-        assert!(of_check(&expected, Answer { place: 1, ..right }).is_err());
-        assert!(of_check(&expected, Answer { length: 1, ..right }).is_err());
+        let check = |answer| of_check("an entry", &expected, answer);
+        assert_eq!(check(right), Ok(()));
+        assert!(check(Answer { number: 6, ..right }).is_err());
+        assert!(check(Answer { place: 1, ..right }).is_err());
+        assert!(check(Answer { length: 1, ..right }).is_err());
     }
 
     #[test]

@@ -103,7 +103,7 @@ impl Planner for Library {
     }
 }
 
-fn pointer(memory: Memory) -> (*mut u8, usize) {
+pub(crate) fn pointer(memory: Memory) -> (*mut u8, usize) {
     match memory {
         Some(bytes) => (bytes.as_mut_ptr(), bytes.len()),
         None => (ptr::null_mut(), 0),

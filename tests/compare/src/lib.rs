@@ -1,5 +1,5 @@
 //! Holds the planner's entries for C and its programs against the reference implementation of document 01 and of
-//! requests E1 and E2.
+//! requests E1 to E3.
 
 pub mod buffers;
 pub mod calls;
@@ -9,5 +9,6 @@ pub mod lent;
 pub mod program;
 pub mod reasons;
 pub mod totals;
+pub mod trees;
 #[cfg(test)]
 mod wrong;

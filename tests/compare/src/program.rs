@@ -1,6 +1,8 @@
-//! Whole inputs through programs `plan` and `explain`.
+//! Whole inputs through programs `plan`, `explain` and `plan_tree`.
 
+use std::ffi::OsStr;
 use std::io::{self, ErrorKind, Write};
+use std::os::unix::ffi::OsStrExt;
 use std::path::Path;
 use std::process::{Command, Output, Stdio};
 use std::thread;
@@ -8,7 +10,12 @@ use std::thread;
 /// Runs a program on an input and compares all that it prints, and its exit status, with what is expected. Returns the
 /// number of bytes compared.
 pub fn compare(program: &Path, input: &[u8], expected: &[u8]) -> Result<usize, String> {
-    run(program, input)
+    compare_with(program, &[], input, expected)
+}
+
+/// The same with these arguments, none of which has a byte 0.
+pub fn compare_with(program: &Path, arguments: &[&[u8]], input: &[u8], expected: &[u8]) -> Result<usize, String> {
+    run(program, arguments, input)
         .map_err(|error| error.to_string())
         .and_then(|output| difference(expected, &output.stdout, output.status.code()))
         .map_err(|report| format!("{}: {report}", program.display()))?;
@@ -16,8 +23,9 @@ pub fn compare(program: &Path, input: &[u8], expected: &[u8]) -> Result<usize, S
 }
 
 /// The input is written by a thread of its own, so that neither side waits for the other with a full pipe.
-fn run(program: &Path, input: &[u8]) -> io::Result<Output> {
-    let mut child = Command::new(program).stdin(Stdio::piped()).stdout(Stdio::piped()).spawn()?;
+fn run(program: &Path, arguments: &[&[u8]], input: &[u8]) -> io::Result<Output> {
+    let arguments = arguments.iter().map(|argument| OsStr::from_bytes(argument));
+    let mut child = Command::new(program).args(arguments).stdin(Stdio::piped()).stdout(Stdio::piped()).spawn()?;
     let stdin = child.stdin.take();
     thread::scope(|scope| {
         let writer = scope.spawn(move || stdin.map_or(Ok(()), |mut pipe| feed(&mut pipe, input)));

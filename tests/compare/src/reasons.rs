@@ -150,7 +150,7 @@ impl<'a, P: Planner> Reasons<'a, P> {
 }
 
 /// No line is longer than include/planner.h says.
-fn check_length(line: &[u8]) -> Result<(), String> {
+pub(crate) fn check_length(line: &[u8]) -> Result<(), String> {
     if line.len() <= LONGEST_REASON {
         Ok(())
     } else {
@@ -159,7 +159,7 @@ fn check_length(line: &[u8]) -> Result<(), String> {
 }
 
 /// Every length up to some more than this one, and that of the longest line.
-fn every_room(length: usize) -> Vec<usize> {
+pub(crate) fn every_room(length: usize) -> Vec<usize> {
     (0..=length + PAST).chain([LONGEST_REASON]).collect()
 }
 
@@ -224,7 +224,7 @@ mod tests {
     /// A letter at the front of each line, and its last byte, which stands behind its values.
     #[test]
     fn one_byte_of_one_line() {
-        let rows = Phrase::ALL.into_iter().filter(|phrase| phrase.number() <= 7);
+        let rows = Phrase::OF_ROWS.into_iter().filter(|phrase| phrase.number() <= 7);
         for phrase in rows.map(Some).chain([None]) {
             assert!(explaining_in(phrase, |line| line[2] ^= 0x20), "{phrase:?}");
             assert!(explaining_in(phrase, |line| line[line.len() - 1] = b'!'), "{phrase:?}");
@@ -235,7 +235,7 @@ mod tests {
     #[test]
     fn one_digit_of_one_line() {
         let other = |digit: &mut u8| *digit = b'0' + (*digit - b'0' + 1) % 10;
-        for phrase in Phrase::ALL.into_iter().filter(|phrase| phrase.words().contains('#')) {
+        for phrase in Phrase::OF_ROWS.into_iter().filter(|phrase| phrase.words().contains('#')) {
             let last = move |line: &mut [u8]| line.iter_mut().rfind(|byte| byte.is_ascii_digit()).map_or((), other);
             assert!(explaining_in(Some(phrase), last), "{phrase:?}");
         }

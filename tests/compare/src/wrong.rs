@@ -117,7 +117,7 @@ impl Planner for Wrong {
 }
 
 /// A right call.
-fn put(expected: &Expected, buffer: &mut [u8]) -> Answer {
+pub fn put(expected: &Expected, buffer: &mut [u8]) -> Answer {
     let text = expected.written(buffer.len());
     buffer[..text.len()].copy_from_slice(text);
     expected.answer(buffer.len())

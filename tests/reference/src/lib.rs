@@ -1,22 +1,29 @@
 //! A second implementation of the planner that document 01 ("Cluster-tree reservation planner for battery radio
-//! sensors") sets out, with the reasons of request E1 of document 02 and the beacon's time of request E2. It was
-//! written from the words of those documents alone, so that another implementation can be compared with it; only the
-//! phrases of the reasons, which document 02 leaves open, were given. Words such as BI, S, X, L, k, m and T are those
-//! of document 01, and g is that of request E2.
+//! sensors") sets out, with the reasons of request E1 of document 02, the beacon's time of request E2 and the surveyed
+//! trees of request E3. It was written from the words of those documents alone, so that another implementation can be
+//! compared with it; only the phrases of the reasons and the arguments of program `plan_tree`, which document 02 leaves
+//! open, were given. Words such as BI, S, X, L, k, m and T are those of document 01, and g is that of request E2.
 
 mod air;
+pub mod lists;
 mod reason;
 pub mod rows;
 mod settings;
+mod survey;
 mod text;
 mod tree;
 
-pub use reason::{line_of, read_reason, whole_line, Phrase, PLANNED};
+pub use reason::{line_of, read_reason, tree_line_of, whole_line, Phrase, PLANNED, TREE_PLANNED};
 pub use settings::Settings;
+pub use survey::{
+    plan_tree, plan_tree_checking, tree_program, write_tree_plan, Beside, Network, NodeLine, Superframe, TreeLink,
+    TreeOutcome, TreePlan, LIST_NAMES, MOST_NODES,
+};
 pub use text::{explanations, program, write_plan, INPUT_LIMIT, NAMES};
 pub use tree::{reservable, reservations, Kind, Line, Plan};
 
-/// A refusal: its number in the table of document 01 ("Rows of settings") and its place, and what its line says.
+/// A refusal: its number in the table of document 01 ("Rows of settings") or in document 02, its place, and what its
+/// line says.
 #[derive(Clone, Copy, Debug, PartialEq, Eq)]
 pub struct Refusal {
     pub number: u32,

@@ -1,14 +1,18 @@
 //! Request E1 of document 02: a refusal as one English line, "composed of the number's phrase, the column's name or the
-//! depth, and the values concerned".
+//! depth, and the values concerned". "Later refusals get such lines too, with their places as numbers": those of
+//! surveyed trees (request E3).
 
 mod reading;
 
 pub use reading::read_reason;
 
-use crate::{Outcome, Refusal, NAMES};
+use crate::{Outcome, Refusal, TreeOutcome, NAMES};
 
 /// The line of a row that is not refused.
 pub const PLANNED: &str = "The row is planned.";
+
+/// The line of a surveyed tree that is not refused.
+pub const TREE_PLANNED: &str = "The tree is planned.";
 
 /// The phrases, one for each way in which a refusal is put into words.
 #[derive(Clone, Copy, Debug, PartialEq, Eq, PartialOrd, Ord)]
@@ -43,6 +47,16 @@ pub enum Phrase {
     Buffer,
     /// 9.
     Input,
+    /// 5, at a router of a surveyed tree.
+    RouterReservations,
+    /// 7, at a router of a surveyed tree.
+    RouterSlots,
+    /// 10, the line of names of a node list.
+    ListNames,
+    /// 10, a node line.
+    NodeLine,
+    /// 10, the sink.
+    NoSink,
 }
 
 /// What a phrase is made of.
@@ -55,7 +69,8 @@ struct Parts {
 }
 
 impl Phrase {
-    pub const ALL: [Phrase; 15] = [
+    /// Those that rows and programs for rows can get. Surveyed trees share some of them: 3, 4 and 6.
+    pub const OF_ROWS: [Phrase; 15] = [
         Phrase::Names,
         Phrase::Value,
         Phrase::TextAfter,
@@ -72,6 +87,10 @@ impl Phrase {
         Phrase::Buffer,
         Phrase::Input,
     ];
+
+    /// Those that surveyed trees alone can get.
+    pub const OF_TREES: [Phrase; 5] =
+        [Phrase::RouterReservations, Phrase::RouterSlots, Phrase::ListNames, Phrase::NodeLine, Phrase::NoSink];
 
     /// The number of the refusals that have this phrase.
     pub fn number(self) -> u32 {
@@ -115,6 +134,13 @@ impl Phrase {
             }
             Phrase::Buffer => of(8, 0, "The lent buffer is shorter than the text to be written."),
             Phrase::Input => of(9, 0, "The input is over 65,536 bytes."),
+            Phrase::RouterReservations => of(5, 0, "Router % would have more than 7 reservations: it would have #."),
+            Phrase::RouterSlots => {
+                of(7, 0, "The slots used at router % are more than can be reserved: # used and # reservable.")
+            }
+            Phrase::ListNames => of(10, 0, "The line of names of the node list differs or is missing."),
+            Phrase::NodeLine => of(10, 0, "Line % of the node list breaks a rule or is missing."),
+            Phrase::NoSink => of(10, 0, "The sink is no router of the tree."),
         }
     }
 }
@@ -141,10 +167,15 @@ pub fn line_of(outcome: &Outcome) -> String {
     outcome.as_ref().map_or_else(Refusal::line, |_| PLANNED.to_string())
 }
 
+/// The line of a surveyed tree with this outcome, without LF.
+pub fn tree_line_of(outcome: &TreeOutcome) -> String {
+    outcome.as_ref().map_or_else(Refusal::line, |_| TREE_PLANNED.to_string())
+}
+
 /// The phrase of the refusal with this number and place, if its words are the whole line, with no values and no place
-/// that varies in them: numbers 1, 8 and 9.
+/// that varies in them: numbers 1, 8 and 9. Number 10 at place 0 has two lines, so it has none here.
 pub fn whole_line(number: u32, place: u32) -> Option<Phrase> {
-    Phrase::ALL.into_iter().find(|phrase| {
+    Phrase::OF_ROWS.into_iter().find(|phrase| {
         let parts = phrase.parts();
         (parts.number, parts.place) == (number, place) && !parts.words.contains(['@', '%', '#'])
     })
@@ -301,8 +332,11 @@ mod tests {
 
     #[test]
     fn all_phrases_are_listed_once_and_in_order() {
-        assert!(Phrase::ALL.windows(2).all(|pair| pair[0] < pair[1]));
-        assert!(Phrase::ALL.windows(2).all(|pair| pair[0].number() <= pair[1].number()));
-        assert_eq!(Phrase::Input as usize + 1, Phrase::ALL.len());
+        for phrases in [&Phrase::OF_ROWS[..], &Phrase::OF_TREES] {
+            assert!(phrases.windows(2).all(|pair| pair[0] < pair[1]));
+            assert!(phrases.windows(2).all(|pair| pair[0].number() <= pair[1].number()));
+        }
+        assert_eq!(Phrase::Input as usize + 1, Phrase::OF_ROWS.len());
+        assert_eq!(Phrase::NoSink as usize + 1, Phrase::OF_ROWS.len() + Phrase::OF_TREES.len());
     }
 }

@@ -5,13 +5,17 @@
 mod broken;
 mod inputs;
 mod lines;
+mod listed;
 mod planned;
 mod reach;
 mod refused;
 mod rng;
 
+pub(crate) use broken::{broken, noise};
 pub use inputs::{names, text};
-pub use lines::{damaged_line, made_up_line};
+pub use lines::{damaged_line, damaged_tree_line, made_up_line, made_up_tree_line};
+pub use listed::{listed, Answered, Listed, DEEPEST_SINK};
+pub(crate) use planned::{draw_octets, largest};
 pub use reach::{plannable_shapes, reachable_refusals, Seen};
 pub use rng::Rng;
 
@@ -30,6 +34,7 @@ const BURST: usize = 7;
 const RATE: usize = 8;
 const HEAD: usize = 9;
 const DATA: usize = 10;
+const ACK: usize = 11;
 
 /// The largest BO and SO.
 const MOST_ORDER: u64 = 14;
@@ -78,7 +83,7 @@ fn order_gap(height: u64, routers: u64) -> u64 {
 }
 
 /// A burst, often at an end of its range.
-fn draw_burst(rng: &mut Rng) -> u64 {
+pub(crate) fn draw_burst(rng: &mut Rng) -> u64 {
     match rng.below(6) {
         0 => 1,
         1 => 2,

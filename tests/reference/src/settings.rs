@@ -87,7 +87,7 @@ fn read_values(row: &[u8]) -> Result<Values, Refusal> {
 }
 
 /// A value: 1 to 4 digits, no leading zero except 0 itself.
-fn read_value(piece: &[u8]) -> Option<u64> {
+pub fn read_value(piece: &[u8]) -> Option<u64> {
     let leading_zero = piece.len() > 1 && piece[0] == b'0';
     if piece.is_empty() || piece.len() > LONGEST_VALUE || leading_zero {
         return None;

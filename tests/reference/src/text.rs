@@ -72,11 +72,13 @@ fn cut_line(text: &[u8]) -> (&[u8], &[u8]) {
 pub fn write_plan(plan: &Plan, out: &mut Vec<u8>) {
     out.extend_from_slice(HEADER);
     for line in &plan.lines {
-        write_line(line, out);
+        write_columns(line, out);
+        out.push(b'\n');
     }
 }
 
-fn write_line(line: &Line, out: &mut Vec<u8>) {
+/// The columns of a line, without its LF.
+pub fn write_columns(line: &Line, out: &mut Vec<u8>) {
     out.push(match line.kind {
         Kind::EndNode => b'E',
         Kind::Up => b'U',
@@ -87,11 +89,10 @@ fn write_line(line: &Line, out: &mut Vec<u8>) {
     for figure in [depth as u64, rate, burst, slots, frames, latency, buffer, delay] {
         write_figure(figure, out);
     }
-    out.push(b'\n');
 }
 
 /// The line of a refusal.
-fn write_refusal(refusal: Refusal, out: &mut Vec<u8>) {
+pub fn write_refusal(refusal: Refusal, out: &mut Vec<u8>) {
     out.push(b'R');
     write_figure(u64::from(refusal.number), out);
     write_figure(u64::from(refusal.place), out);
@@ -99,7 +100,7 @@ fn write_refusal(refusal: Refusal, out: &mut Vec<u8>) {
 }
 
 /// A space and a number in decimal. The digits are found from the last to the first; a u64 has at most 20.
-fn write_figure(mut figure: u64, out: &mut Vec<u8>) {
+pub fn write_figure(mut figure: u64, out: &mut Vec<u8>) {
     let mut digits = [0; 20];
     let mut start = digits.len();
     loop {

@@ -12,7 +12,7 @@ use crate::air;
 use crate::chance::Chance;
 use crate::hold::Promises;
 use crate::row::Row;
-use crate::tree::{Tree, Way};
+use crate::tree::{Way, Ways};
 use crate::windows::{Place, Windows};
 
 /// One offset and one symbol to aim at for each node.
@@ -23,13 +23,20 @@ pub struct Aim {
 }
 
 /// Chooses offsets and symbols for a tree.
-pub fn aim(row: &Row, promises: &Promises, tree: &Tree, windows: Windows, chance: &mut Chance) -> Result<Aim, String> {
+pub fn aim(
+    row: &Row,
+    promises: &Promises,
+    tree: &impl Ways,
+    windows: Windows,
+    chance: &mut Chance,
+) -> Result<Aim, String> {
     let ways = tree.ways();
-    let order = outward(&ways, tree.sink);
+    let sink = ways.iter().position(Option::is_none).ok_or("no sink")?;
+    let order = outward(&ways, sink);
     let (bi, x) = (air::interval(row), air::exchange(row));
     let seed = chance.draw();
     let mut aim = Aim { offsets: vec![0; ways.len()], symbols: vec![0; ways.len()] };
-    aim.symbols[tree.sink] = at_sink(row, promises, &ways)?;
+    aim.symbols[sink] = at_sink(row, promises, &ways, &order)?;
     for node in order {
         let Some(Way { next, line }) = ways[node] else { continue };
         let slots = promises.line(line)?.slots;
@@ -64,14 +71,24 @@ fn outward(ways: &[Option<Way>], sink: usize) -> Vec<usize> {
 /// two intervals and an exchange), and within its interval so that a window there can begin with the
 /// interval. A link with one exchange moves the windows behind it one exchange towards the beginning
 /// of the interval, so there must be room for those.
-fn at_sink(row: &Row, promises: &Promises, ways: &[Option<Way>]) -> Result<u64, String> {
+fn at_sink(row: &Row, promises: &Promises, ways: &[Option<Way>], order: &[usize]) -> Result<u64, String> {
     let mut singles = std::collections::BTreeSet::new();
     for way in ways.iter().flatten() {
         if air::exchanges(row, promises.line(way.line)?.slots) == 1 {
             singles.insert(way.line);
         }
     }
-    let links = 2 * row.h + 2;
+    let links = longest_route(ways, order) + 2;
     let room = air::exchange(row) * (1 + singles.len() as u64);
     Ok(3 * links * air::interval(row) + room % air::interval(row))
+}
+
+/// The links of the longest route, where the nodes are given so that each comes after its neighbour on
+/// the way to the sink.
+fn longest_route(ways: &[Option<Way>], order: &[usize]) -> u64 {
+    let mut links = vec![0; ways.len()];
+    for &node in order {
+        links[node] = ways[node].map_or(0, |way| links[way.next] + 1);
+    }
+    links.into_iter().max().unwrap_or(0)
 }

@@ -9,7 +9,7 @@ use crate::run::Outcome;
 use crate::setup::Setup;
 use crate::shapes::{self, Hanging};
 use crate::ties::Ties;
-use crate::tree::Tree;
+use crate::tree::{Tree, Ways};
 use crate::windows::Windows;
 
 /// The most nodes of a tree.
@@ -79,7 +79,7 @@ pub fn directed(
 }
 
 /// The setup with the frame that was on its way longest going last in every tie, the others drawn.
-pub fn watched(setup: &Setup, outcome: &Outcome, seed: u64) -> Option<Setup> {
+pub fn watched<T: Ways + Clone>(setup: &Setup<T>, outcome: &Outcome, seed: u64) -> Option<Setup<T>> {
     let (frame, _) = hold::longest(outcome)?;
     Some(Setup { ties: Ties::WatchedLast { frame, seed }, ..setup.clone() })
 }
@@ -107,7 +107,8 @@ pub fn drawn(row: &Row, promises: &Promises, chance: &mut Chance) -> Result<Setu
     Ok(setup)
 }
 
-fn drawn_pattern(chance: &mut Chance) -> Pattern {
+/// What a sensor does.
+pub fn drawn_pattern(chance: &mut Chance) -> Pattern {
     PATTERNS[chance.index(PATTERNS.len())]
 }
 

@@ -7,10 +7,16 @@ use crate::hold::Promises;
 use crate::link::most_offset;
 use crate::row::Row;
 use crate::setup::Setup;
+use crate::tree::Ways;
 
 /// The setup with one to three things changed. The readings of a sensor are only moved together, so
 /// they keep their bucket.
-pub fn changed(row: &Row, promises: &Promises, setup: &Setup, chance: &mut Chance) -> Result<Setup, String> {
+pub fn changed<T: Ways + Clone>(
+    row: &Row,
+    promises: &Promises,
+    setup: &Setup<T>,
+    chance: &mut Chance,
+) -> Result<Setup<T>, String> {
     let mut other = setup.clone();
     for _ in 0..=chance.up_to(2) {
         match chance.up_to(4) {
@@ -42,7 +48,12 @@ fn moved(value: u64, step: u64, most: u64, chance: &mut Chance) -> u64 {
 }
 
 /// Moves the window of one node, or of all nodes on its line alike.
-fn move_window(row: &Row, promises: &Promises, setup: &mut Setup, chance: &mut Chance) -> Result<(), String> {
+fn move_window<T: Ways>(
+    row: &Row,
+    promises: &Promises,
+    setup: &mut Setup<T>,
+    chance: &mut Chance,
+) -> Result<(), String> {
     let ways = setup.tree.ways();
     let node = chance.index(ways.len());
     let Some(way) = ways[node] else { return Ok(()) };
@@ -58,7 +69,7 @@ fn move_window(row: &Row, promises: &Promises, setup: &mut Setup, chance: &mut C
 }
 
 /// Moves all readings of one sensor, or of all sensors on its line, by the same number of symbols.
-fn move_readings(row: &Row, setup: &mut Setup, chance: &mut Chance) {
+fn move_readings<T: Ways>(row: &Row, setup: &mut Setup<T>, chance: &mut Chance) {
     if setup.readings.is_empty() {
         return;
     }

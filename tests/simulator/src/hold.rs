@@ -9,7 +9,7 @@ use crate::figures::Line;
 use crate::row::Row;
 use crate::run::Outcome;
 use crate::stretch;
-use crate::tree::Tree;
+use crate::tree::Ways;
 
 /// What the printed plan says of one sort of link.
 #[derive(Clone, Copy, Debug, PartialEq, Eq)]
@@ -55,19 +55,22 @@ impl Promises {
 }
 
 /// A printed figure that must be below 2^`bits`, so that no sum or product made with it is too large.
-fn figure(value: u128, bits: u32) -> Result<u64, String> {
+pub fn figure(value: u128, bits: u32) -> Result<u64, String> {
     u64::try_from(value).ok().filter(|value| value >> bits == 0).ok_or_else(|| format!("a figure too large: {value}"))
 }
 
-/// The sorts of claims. Queues are told apart by the kind of their line: E, U or D.
+/// The sorts of claims. Queues are told apart by the kind of their line: E, U or D. The last two are
+/// made of surveyed trees alone: each frame's own route, and that no frame is lost.
 #[derive(Clone, Copy, Debug, PartialEq, Eq)]
 pub enum Claim {
     Queue(char),
     Delay,
     Stretch,
+    Route,
+    Lost,
 }
 
-/// All sorts, in the order in which they are reported.
+/// All sorts that are made of a row's trees, in the order in which they are reported.
 pub const CLAIMS: [Claim; 5] = [Claim::Queue('E'), Claim::Queue('U'), Claim::Queue('D'), Claim::Delay, Claim::Stretch];
 
 /// How far a run came with one claim: what it reached and what the plan prints.
@@ -101,6 +104,8 @@ impl fmt::Display for Reach {
             Claim::Queue(_) => ("queue", "frames"),
             Claim::Delay => ("delay", "symbols"),
             Claim::Stretch => ("stretch", "frame-symbols"),
+            Claim::Route => ("own route", "symbols"),
+            Claim::Lost => ("loss", "frames"),
         };
         write!(out, "{claim} of {}: {} {unit}, printed {}", self.place, self.reached, self.printed)?;
         if self.is_over() {
@@ -112,7 +117,7 @@ impl fmt::Display for Reach {
 
 /// Holds a run against the figures: for each claim, in the order of the list, the reach that is
 /// largest in comparison with what is printed, so a claim is violated exactly if its reach is over.
-pub fn hold(row: &Row, promises: &Promises, tree: &Tree, outcome: &Outcome) -> Result<[Reach; 5], String> {
+pub fn hold(row: &Row, promises: &Promises, tree: &impl Ways, outcome: &Outcome) -> Result<[Reach; 5], String> {
     let [ends, up, down] = queue_reaches(promises, tree, outcome)?;
     Ok([ends, up, down, delay_reach(promises, outcome), stretch_reach(row, promises, outcome)])
 }
@@ -120,7 +125,7 @@ pub fn hold(row: &Row, promises: &Promises, tree: &Tree, outcome: &Outcome) -> R
 /// Every queue in every symbol is at most BUFFER of its line. Of each kind of line the reach with the
 /// largest share is kept; it is over if any is, for a violated claim has a share above 1 and a kept
 /// one has not.
-fn queue_reaches(promises: &Promises, tree: &Tree, outcome: &Outcome) -> Result<[Reach; 3], String> {
+fn queue_reaches(promises: &Promises, tree: &impl Ways, outcome: &Outcome) -> Result<[Reach; 3], String> {
     let none = |kind| Reach { claim: Claim::Queue(kind), place: "no node".into(), reached: 0, printed: 0 };
     let mut worst = ['E', 'U', 'D'].map(none);
     for (node, way) in tree.ways().into_iter().enumerate() {
@@ -131,7 +136,7 @@ fn queue_reaches(promises: &Promises, tree: &Tree, outcome: &Outcome) -> Result<
         for worst in worst.iter_mut().filter(|worst| worst.claim == Claim::Queue(kind)) {
             let reach = Reach { claim: worst.claim, place: String::new(), reached, printed };
             if reach.share() > worst.share() {
-                *worst = Reach { place: format!("node {node} on line {kind} {depth}"), ..reach };
+                *worst = Reach { place: format!("{} on line {kind} {depth}", tree.name(node)), ..reach };
             }
         }
     }
@@ -178,6 +183,7 @@ mod tests {
     use super::*;
     use crate::setup::Frame;
     use crate::shapes;
+    use crate::tree::Tree;
 
     /// One end node on a root that is the sink; BI = 960. The plan is made up for these tests.
     fn plan() -> (Row, Promises, Tree) {

@@ -3,7 +3,8 @@
 //! It holds the figures of a printed plan (slots, queue sizes, total delay, the sink's burst and
 //! rate) against simulated radio trees. The run takes nothing from the planner but these figures.
 //! The package also has its own reading of document 01's recurrences, with five deliberate
-//! mutations, so that it can be shown that wrong figures are found out.
+//! mutations, so that it can be shown that wrong figures are found out. The same is done for the
+//! surveyed trees of request E3, with four mutations.
 
 pub mod aim;
 pub mod air;
@@ -25,6 +26,7 @@ pub mod run;
 pub mod setup;
 pub mod shapes;
 pub mod stretch;
+pub mod surveys;
 pub mod ties;
 pub mod tree;
 pub mod trial;

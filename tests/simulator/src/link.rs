@@ -3,7 +3,7 @@
 use crate::air;
 use crate::hold::Promises;
 use crate::row::Row;
-use crate::tree::Tree;
+use crate::tree::{Way, Ways};
 
 /// A link: where it leads and when its exchanges start.
 #[derive(Clone, Copy, Debug)]
@@ -48,11 +48,12 @@ pub fn most_offset(row: &Row, slots: u64) -> Result<u64, String> {
 }
 
 /// The links of all nodes: slots as printed, m counted from them, offsets as given.
-pub fn links(row: &Row, promises: &Promises, tree: &Tree, offsets: &[u64]) -> Result<Vec<Option<Link>>, String> {
-    if offsets.len() != tree.nodes.len() {
+pub fn links(row: &Row, promises: &Promises, tree: &impl Ways, offsets: &[u64]) -> Result<Vec<Option<Link>>, String> {
+    let ways = tree.ways();
+    if offsets.len() != ways.len() {
         return Err("one offset for each node is needed".into());
     }
-    let link = |(way, offset): (Option<crate::tree::Way>, &u64)| {
+    let link = |(way, offset): (Option<Way>, &u64)| {
         let Some(way) = way else { return Ok(None) };
         let slots = promises.line(way.line)?.slots;
         if *offset > most_offset(row, slots)? {
@@ -66,7 +67,7 @@ pub fn links(row: &Row, promises: &Promises, tree: &Tree, offsets: &[u64]) -> Re
             interval: air::interval(row),
         }))
     };
-    tree.ways().into_iter().zip(offsets).map(link).collect()
+    ways.into_iter().zip(offsets).map(link).collect()
 }
 
 #[cfg(test)]

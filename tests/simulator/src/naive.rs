@@ -6,6 +6,7 @@
 use crate::link::Link;
 use crate::run::Outcome;
 use crate::setup::{self, Frame, Setup};
+use crate::tree::Ways;
 
 /// Where a frame is.
 #[derive(Clone, Copy, PartialEq, Eq)]
@@ -21,7 +22,7 @@ enum Place {
 }
 
 /// Runs a setup through symbols 0 to `last`.
-pub fn run(links: &[Option<Link>], setup: &Setup, last: u64) -> Outcome {
+pub fn run<T: Ways>(links: &[Option<Link>], setup: &Setup<T>, last: u64) -> Outcome {
     let frames = setup::frames(&setup.readings);
     let mut places = vec![Place::Unmade; frames.len()];
     let mut queues = vec![0; links.len()];
@@ -72,7 +73,7 @@ fn readings(links: &[Option<Link>], frames: &[Frame], places: &mut [Place], symb
 }
 
 /// Each link with a start in this symbol sends the frame that has waited longest, if one came earlier.
-fn starts(links: &[Option<Link>], setup: &Setup, frames: &[Frame], places: &mut [Place], symbol: u64) {
+fn starts<T: Ways>(links: &[Option<Link>], setup: &Setup<T>, frames: &[Frame], places: &mut [Place], symbol: u64) {
     for (number, link) in links.iter().enumerate() {
         let Some(link) = link else { continue };
         let within = symbol % link.interval;

@@ -23,14 +23,14 @@ pub fn text(answer: &Answer) -> String {
 }
 
 /// Reads a number in the form in which it is printed: digits without a leading zero.
-fn number<N: std::str::FromStr>(word: &str) -> Result<N, String> {
+pub fn number<N: std::str::FromStr>(word: &str) -> Result<N, String> {
     let plain = word.bytes().all(|byte| byte.is_ascii_digit()) && (word == "0" || !word.starts_with('0'));
     let value = if plain { word.parse().ok() } else { None };
     value.ok_or_else(|| format!("not a number: {word:?}"))
 }
 
 /// Reads one line of kind E, U, D or S.
-fn line(text: &str) -> Result<Line, String> {
+pub fn line(text: &str) -> Result<Line, String> {
     let words: Vec<&str> = text.split(' ').collect();
     let [kind, depth, rate, burst, slots, frames, latency, buffer, delay] = words[..] else {
         return Err(format!("not nine words: {text:?}"));
@@ -56,12 +56,12 @@ fn line(text: &str) -> Result<Line, String> {
 }
 
 /// Reads the two numbers of a refusal.
-fn refusal(text: &str) -> Result<Answer, String> {
+pub fn refusal(text: &str) -> Result<(u64, u64), String> {
     let words: Vec<&str> = text.split(' ').collect();
     let ["R", no, place] = words[..] else {
         return Err(format!("neither a header nor a refusal: {text:?}"));
     };
-    Ok(Answer::Refused(number(no)?, number(place)?))
+    Ok((number(no)?, number(place)?))
 }
 
 /// Reads the output of program `plan`: one answer for each row. A plan begins with its header line
@@ -71,7 +71,8 @@ pub fn read(text: &str) -> Result<Vec<Answer>, String> {
     let mut rest = text.split_terminator('\n');
     while let Some(first) = rest.next() {
         if first != HEADER {
-            answers.push(refusal(first)?);
+            let (number, place) = refusal(first)?;
+            answers.push(Answer::Refused(number, place));
             continue;
         }
         let mut lines = Vec::new();

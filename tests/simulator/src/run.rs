@@ -31,6 +31,7 @@ use std::collections::{BinaryHeap, VecDeque};
 use crate::link::Link;
 use crate::setup::{self, Frame, Setup};
 use crate::ties::Ties;
+use crate::tree::Ways;
 
 /// What a run did.
 #[derive(Clone, Debug, PartialEq, Eq)]
@@ -76,7 +77,7 @@ struct Run<'a> {
 }
 
 /// Runs a setup through symbols 0 to `last`.
-pub fn run(links: &[Option<Link>], setup: &Setup, last: u64) -> Outcome {
+pub fn run<T: Ways>(links: &[Option<Link>], setup: &Setup<T>, last: u64) -> Outcome {
     let frames: Vec<(Frame, Option<u64>)> = setup::frames(&setup.readings).into_iter().map(|f| (f, None)).collect();
     let mut run = Run {
         links,

@@ -4,7 +4,7 @@
 use crate::bucket;
 use crate::row::Row;
 use crate::ties::Ties;
-use crate::tree::Tree;
+use crate::tree::{Tree, Ways};
 
 /// One reading: in this symbol this sensor makes so many frames.
 #[derive(Clone, Copy, Debug, PartialEq, Eq, PartialOrd, Ord)]
@@ -16,8 +16,8 @@ pub struct Reading {
 
 /// What a run is fed. Node `i` has `offsets[i]`; the sink's offset is not looked at.
 #[derive(Clone, Debug)]
-pub struct Setup {
-    pub tree: Tree,
+pub struct Setup<T: Ways = Tree> {
+    pub tree: T,
     pub offsets: Vec<u64>,
     pub readings: Vec<Reading>,
     pub ties: Ties,

@@ -24,6 +24,17 @@ pub struct Tree {
     pub sink: usize,
 }
 
+/// What has links: a tree within a row, or a surveyed one.
+pub trait Ways {
+    /// The link of every node; the sink has none.
+    fn ways(&self) -> Vec<Option<Way>>;
+
+    /// How a node is named in a report.
+    fn name(&self, node: usize) -> String {
+        format!("node {node}")
+    }
+}
+
 /// The link of a node: the neighbour on the way to the sink, and the plan's line for it, as the
 /// line's kind and depth.
 #[derive(Clone, Copy, Debug, PartialEq, Eq)]
@@ -32,10 +43,10 @@ pub struct Way {
     pub line: (char, u64),
 }
 
-impl Tree {
-    /// The link of every node; the sink has none. The line is E for an end node, D for a router with
-    /// the sink below it, else U (document 01, "The run").
-    pub fn ways(&self) -> Vec<Option<Way>> {
+impl Ways for Tree {
+    /// The line is E for an end node, D for a router with the sink below it, else U (document 01, "The
+    /// run").
+    fn ways(&self) -> Vec<Option<Way>> {
         let mut ways: Vec<Option<Way>> = self.nodes.iter().map(upward).collect();
         ways[self.sink] = None;
         let mut below = self.sink;
@@ -45,7 +56,9 @@ impl Tree {
         }
         ways
     }
+}
 
+impl Tree {
     /// Every end node senses; routers sense too where OWN is 1.
     pub fn senses(&self, row: &Row, node: usize) -> bool {
         self.nodes[node].kind == Kind::End || row.own == 1

@@ -6,6 +6,7 @@ use crate::link;
 use crate::row::Row;
 use crate::run::{self, Outcome};
 use crate::setup::Setup;
+use crate::tree::Ways;
 
 /// A planned row: the figures that must hold, and the wrong ones that must not.
 pub struct Case {

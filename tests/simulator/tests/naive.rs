@@ -14,7 +14,7 @@ use simulator::run;
 use simulator::setup::{Reading, Setup};
 use simulator::shapes;
 use simulator::ties::Ties;
-use simulator::tree::{Tree, Way};
+use simulator::tree::{Tree, Way, Ways};
 
 fn promises(row: &Row) -> Promises {
     let Answer::Plan(lines) = figures::answer(row, Version::Right) else { panic!("row {row} is planned") };

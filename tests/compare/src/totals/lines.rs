@@ -45,7 +45,7 @@ impl Lines {
 
     /// Lines and damages that can be reached and were not.
     pub fn missing(&self) -> Vec<String> {
-        let phrases = Phrase::ALL.into_iter().filter(|phrase| !self.phrases.contains_key(phrase));
+        let phrases = Phrase::OF_ROWS.into_iter().filter(|phrase| !self.phrases.contains_key(phrase));
         let phrases = phrases.map(|phrase| format!("line \"{}\"", phrase.words()));
         let counts = [
             (self.planned, "line of a planned row"),
@@ -78,9 +78,9 @@ mod tests {
     /// A run that has seen everything but one thing says what is missing.
     #[test]
     fn what_is_missing_is_named() {
-        assert_eq!(Lines::default().missing().len(), Phrase::ALL.len() + 4);
+        assert_eq!(Lines::default().missing().len(), Phrase::OF_ROWS.len() + 4);
         let mut lines = Lines { planned: 1, ..Lines::default() };
-        Phrase::ALL.into_iter().for_each(|phrase| lines.note(Some(phrase)));
+        Phrase::OF_ROWS.into_iter().for_each(|phrase| lines.note(Some(phrase)));
         lines.note_damaged(Some((2, 1)), Some((2, 1)));
         lines.note_damaged(Some((2, 1)), Some((2, 3)));
         lines.note_damaged(None, None);

@@ -7,7 +7,7 @@ use crate::NAMES;
 /// written in decimal without leading zeros. They may be of any length, but a place is below 2^32. What they say is not
 /// weighed: a line that no row can get reads as its words have it.
 pub fn read_reason(line: &[u8]) -> Option<(u32, u32)> {
-    Phrase::ALL.into_iter().find_map(|phrase| read_as(phrase, line))
+    Phrase::OF_ROWS.into_iter().chain(Phrase::OF_TREES).find_map(|phrase| read_as(phrase, line))
 }
 
 /// Holds the line against the words of a phrase from the front.
@@ -62,8 +62,8 @@ mod tests {
         read_reason(line.as_bytes())
     }
 
-    /// A line of each number, of each place of number 4, and of both readings of place 7.
-    const LINES: [(&str, (u32, u32)); 16] = [
+    /// A line of each number, of each place of number 4, and of both readings of place 7; then those of surveyed trees.
+    const LINES: [(&str, (u32, u32)); 21] = [
         ("The line of names differs or is missing.", (1, 0)),
         ("The value of H is unreadable or missing.", (2, 3)),
         ("There is text after the last value, where column 13 would be.", (2, 13)),
@@ -80,6 +80,11 @@ mod tests {
         ("The slots used at depth 12 are more than can be reserved: 16 used and 15 reservable.", (7, 12)),
         ("The lent buffer is shorter than the text to be written.", (8, 0)),
         ("The input is over 65,536 bytes.", (9, 0)),
+        ("Router 4 would have more than 7 reservations: it would have 9.", (5, 4)),
+        ("The slots used at router 2 are more than can be reserved: 10 used and 7 reservable.", (7, 2)),
+        ("The line of names of the node list differs or is missing.", (10, 0)),
+        ("Line 3 of the node list breaks a rule or is missing.", (10, 3)),
+        ("The sink is no router of the tree.", (10, 0)),
     ];
 
     #[test]
@@ -90,8 +95,9 @@ mod tests {
     }
 
     #[test]
-    fn a_planned_row_and_nothing_at_all() {
+    fn what_is_planned_and_nothing_at_all() {
         assert_eq!(read("The row is planned."), None);
+        assert_eq!(read("The tree is planned."), None);
         assert_eq!(read(""), None);
     }
 
@@ -160,13 +166,15 @@ mod tests {
         let slots = |place: &str| {
             read(&format!("The slots used at depth {place} are more than can be reserved: 16 used and 15 reservable."))
         };
+        let line = |place: &str| read(&format!("Line {place} of the node list breaks a rule or is missing."));
         for place in [0, 1, 12, 13, 99, 1 << 31, u32::MAX] {
             assert_eq!(after(&place.to_string()), Some((2, place)));
             assert_eq!(slots(&place.to_string()), Some((7, place)));
+            assert_eq!(line(&place.to_string()), Some((10, place)));
         }
         for none in ["4294967296", "4294967308", "42949672950", "18446744073709551616", "18446744073709551629", "H", ""]
         {
-            assert_eq!((after(none), slots(none)), (None, None), "{none}");
+            assert_eq!((after(none), slots(none), line(none)), (None, None, None), "{none}");
         }
         assert_eq!(read("The value of 4294967296 is unreadable or missing."), None);
         assert_eq!(read("The value of 4294967309 is unreadable or missing."), None);
@@ -206,6 +214,12 @@ mod tests {
             "A router would have more than 7 reservations: NR is 4 and NE is 4.",
             "There are more routers than superframes that fit a beacon interval: 3 superframes and 2 routers.",
             "The slots used at depth 12 are more than can be reserved: 16 reservable and 15 used.",
+            "The slots used at node 2 are more than can be reserved: 10 used and 7 reservable.",
+            "Router 4 would have more than 7 reservations: NE is 4 and NR is 4.",
+            "A router would have more than 7 reservations: it would have 9.",
+            "The line of names of the list differs or is missing.",
+            "Line 3 differs or is missing.",
+            "The sink is no router.",
             "R 4 2",
         ] {
             assert_eq!(read(none), None, "{none}");
@@ -215,7 +229,7 @@ mod tests {
     #[test]
     fn every_refusal_reads_back() {
         let places = [0, 1, 7, 12, 13, 4_294_967_295];
-        for phrase in Phrase::ALL {
+        for phrase in Phrase::OF_ROWS.into_iter().chain(Phrase::OF_TREES) {
             let varies = phrase.words().contains(['@', '%']);
             for place in places.into_iter().filter(|_| varies).chain([phrase.parts().place]) {
                 let refusal = Refusal::new(phrase, place, [0, u64::MAX]);

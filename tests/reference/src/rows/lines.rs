@@ -1,7 +1,7 @@
 //! Lines of refusals damaged as bytes, and lines made up from phrases: some are a reason still, most are none.
 
 use super::*;
-use crate::{Phrase, NAMES, PLANNED};
+use crate::{Phrase, NAMES, PLANNED, TREE_PLANNED};
 use std::ops::Range;
 
 /// Numbers about the ends of 32, 64 and 128 bits, some of which leave a small one when cut to so many bits.
@@ -20,19 +20,49 @@ const NO_NUMBERS: [&str; 8] = ["", "00", "01", "012", "-1", "1.0", " 1", "x"];
 /// What may stand behind a line by mistake.
 const ENDS: [&[u8]; 10] = [b" ", b".", b"\n", b"\r\n", b"\0", b"0", b"9.", b" x", b"\xff", b".."];
 
+/// Phrases from which lines are made up, and the line of what is not refused.
+#[derive(Clone, Copy)]
+struct Wording {
+    phrases: &'static [&'static [Phrase]],
+    planned: &'static str,
+}
+
+const OF_ROWS: Wording = Wording { phrases: &[&Phrase::OF_ROWS], planned: PLANNED };
+/// Those of rows are in them too, so that the front of a line of a tree may meet the end of a row's.
+const OF_TREES: Wording = Wording { phrases: &[&Phrase::OF_TREES, &Phrase::OF_ROWS], planned: TREE_PLANNED };
+
 /// The line after one damage, seldom two.
 pub fn damaged_line(rng: &mut Rng, line: &[u8]) -> Vec<u8> {
-    let mut damaged = damage(rng, line);
-    if rng.one_in(8) {
-        damaged = damage(rng, &damaged);
-    }
-    damaged
+    damaged(rng, line, OF_ROWS)
+}
+
+/// The same for the line of a surveyed tree.
+pub fn damaged_tree_line(rng: &mut Rng, line: &[u8]) -> Vec<u8> {
+    damaged(rng, line, OF_TREES)
 }
 
 /// A phrase with any column, place and values, most of which are none of a row.
 pub fn made_up_line(rng: &mut Rng) -> Vec<u8> {
+    made_up(rng, OF_ROWS)
+}
+
+/// A phrase of a surveyed tree or of a row.
+pub fn made_up_tree_line(rng: &mut Rng) -> Vec<u8> {
+    made_up(rng, OF_TREES)
+}
+
+fn damaged(rng: &mut Rng, line: &[u8], wording: Wording) -> Vec<u8> {
+    let mut damaged = damage(rng, line, wording);
+    if rng.one_in(8) {
+        damaged = damage(rng, &damaged, wording);
+    }
+    damaged
+}
+
+fn made_up(rng: &mut Rng, wording: Wording) -> Vec<u8> {
+    let phrases = if let [phrases] = wording.phrases { phrases } else { rng.pick(wording.phrases) };
     let mut line = Vec::new();
-    for letter in rng.pick(&Phrase::ALL).words().bytes() {
+    for letter in rng.pick(phrases).words().bytes() {
         match letter {
             b'@' => line.extend(column(rng)),
             b'%' | b'#' => line.extend(number(rng)),
@@ -42,7 +72,7 @@ pub fn made_up_line(rng: &mut Rng) -> Vec<u8> {
     line
 }
 
-fn damage(rng: &mut Rng, line: &[u8]) -> Vec<u8> {
+fn damage(rng: &mut Rng, line: &[u8], wording: Wording) -> Vec<u8> {
     match rng.below(8) {
         0 => with_other_byte(rng, line),
         1 => line[..rng.index(line.len() + 1)].to_vec(),
@@ -50,7 +80,7 @@ fn damage(rng: &mut Rng, line: &[u8]) -> Vec<u8> {
         3 | 4 => with_digits(rng, line),
         5 => with_number(rng, line),
         6 => with_word(rng, line),
-        _ => with_other_end(rng, line),
+        _ => with_other_end(rng, line, wording),
     }
 }
 
@@ -129,8 +159,8 @@ fn without_mark(word: &[u8]) -> &[u8] {
 }
 
 /// The front of this line and the end of another phrase, cut where both have a space.
-fn with_other_end(rng: &mut Rng, line: &[u8]) -> Vec<u8> {
-    let other = if rng.one_in(10) { PLANNED.as_bytes().to_vec() } else { made_up_line(rng) };
+fn with_other_end(rng: &mut Rng, line: &[u8], wording: Wording) -> Vec<u8> {
+    let other = if rng.one_in(10) { wording.planned.as_bytes().to_vec() } else { made_up(rng, wording) };
     let front = cut_at_space(rng, line);
     let end = cut_at_space(rng, &other);
     [&line[..front], &other[end..]].concat()
@@ -179,8 +209,8 @@ fn number(rng: &mut Rng) -> Vec<u8> {
 #[cfg(test)]
 mod tests {
     use super::*;
-    use crate::{line_of, plan_row, read_reason};
-    use std::collections::BTreeMap;
+    use crate::{line_of, lists, plan_row, plan_tree, read_reason, tree_line_of};
+    use std::collections::{BTreeMap, BTreeSet};
 
     #[test]
     fn columns_with_marks() {
@@ -211,6 +241,26 @@ mod tests {
             }
         }
         assert!(counts[0] > 500 && counts[1] > 200 && counts[2] > 10_000, "{counts:?}");
+    }
+
+    /// The same for lines of surveyed trees; some of them read as the refusal of a row.
+    #[test]
+    fn damaged_lines_of_trees_are_of_all_kinds() {
+        let mut rng = Rng::new(14);
+        let mut counts = [0; 3];
+        for _ in 0..10_000 {
+            let lists::Drawn { list, beside } = lists::draw(&mut rng);
+            let line = tree_line_of(&plan_tree(&list, &beside));
+            let damaged = damaged_tree_line(&mut rng, line.as_bytes());
+            let (before, after) = (read_reason(line.as_bytes()), read_reason(&damaged));
+            if damaged != line.as_bytes() {
+                counts[after.map_or(2, |_| usize::from(before != after))] += 1;
+            }
+        }
+        assert!(counts[0] > 100 && counts[1] > 100 && counts[2] > 5_000, "{counts:?}");
+        let made_up: BTreeSet<u32> =
+            (0..2_000).filter_map(|_| read_reason(&made_up_tree_line(&mut rng))).map(|(number, _)| number).collect();
+        assert_eq!(made_up, (1..=10).collect());
     }
 
     /// Every number is made up, with small and with large places where a place varies.

@@ -124,7 +124,7 @@ fn smaller_of_two(rng: &mut Rng, low: u64, high: u64) -> u64 {
 }
 
 /// M, often at an end of its range or on either side of the step in X.
-fn draw_octets(rng: &mut Rng) -> u64 {
+pub fn draw_octets(rng: &mut Rng) -> u64 {
     match rng.below(4) {
         0 => rng.pick(&[6, 7, 17, 18, 19, 20, 126, 127]),
         1 => rng.range(6, 18),
@@ -140,7 +140,7 @@ fn roomiest(rng: &mut Rng, height: u64, sink: u64) -> Values {
 }
 
 /// The largest RATE with which these values, which are planned with RATE 1, are planned.
-fn fastest(values: &Values) -> u64 {
+pub(super) fn fastest(values: &Values) -> u64 {
     let with = |rate| {
         let mut values = *values;
         values[RATE] = rate;
@@ -161,7 +161,7 @@ fn longest(values: &Values) -> u64 {
 }
 
 /// The largest number from low to high that holds, where low holds and what holds ends once.
-fn largest(mut low: u64, mut high: u64, holds: impl Fn(u64) -> bool) -> u64 {
+pub fn largest(mut low: u64, mut high: u64, holds: impl Fn(u64) -> bool) -> u64 {
     while low < high {
         let middle = (low + high).div_ceil(2);
         if holds(middle) {

@@ -6,7 +6,11 @@
 //! the own figures.
 //! `attack rows`: the list of rows as an input of program `plan`.
 //! `attack plans`: what program `plan` should print for them.
+//! `attack trees SEED RUNS [FOLDER]`: the same with surveyed trees, the fixed ones and drawn ones, or those
+//! of FOLDER with the plans that stand there; and with four wrong plans.
+//! `attack lists SEED FOLDER`: writes the fixed and drawn trees there, as inputs of program `plan_tree`.
 
+use std::path::Path;
 use std::process::ExitCode;
 
 use simulator::attack::{self, ON_EVERY_TREE, ON_ONE_TREE};
@@ -21,12 +25,19 @@ use simulator::row::NAMES;
 use simulator::rows;
 use simulator::run::Outcome;
 use simulator::setup::Setup;
+use simulator::surveys::survey::Survey;
+use simulator::surveys::{self, drawn, fixed, folder};
 use simulator::trial::{self, Case};
 
-const USAGE: &str = "usage: attack SEED RUNS [PRINTED] | attack drawn SEED ROWS | attack rows | attack plans";
+const USAGE: &str = "usage: attack SEED RUNS [PRINTED] | attack drawn SEED ROWS | attack rows | attack plans | \
+                     attack trees SEED RUNS [FOLDER] | attack lists SEED FOLDER";
 
 /// Drawn runs on each drawn row.
 const RUNS_ON_DRAWN: u64 = 20;
+
+/// Surveyed trees that are drawn, beside the fixed ones: planned ones, and any.
+const DRAWN_PLANNED: usize = 120;
+const DRAWN_ANY: usize = 40;
 
 fn main() -> ExitCode {
     let words: Vec<String> = std::env::args().skip(1).collect();
@@ -43,6 +54,9 @@ fn main() -> ExitCode {
         }
         [seed, runs] => attack_rows(seed, runs, None),
         ["drawn", seed, count] => attack_drawn_rows(seed, count),
+        ["trees", seed, runs] => attack_trees(seed, runs, None),
+        ["trees", seed, runs, folder] => attack_trees(seed, runs, Some(folder)),
+        ["lists", seed, folder] => number(seed).and_then(|seed| folder::write(Path::new(folder), &surveys(seed))),
         [seed, runs, printed] => attack_rows(seed, runs, Some(printed)),
         _ => Err(USAGE.into()),
     };
@@ -138,6 +152,51 @@ fn attack_drawn_rows(seed: &str, count: &str) -> Result<(), String> {
         }
     }
     print!("{}", attack.tally.text());
+    Ok(())
+}
+
+/// The fixed surveyed trees and drawn ones.
+fn surveys(seed: u64) -> Vec<Survey> {
+    let mut chance = Chance::new(seed);
+    let mut surveys = fixed::all();
+    surveys.extend((0..DRAWN_PLANNED).map(|_| drawn::planned(&mut chance)));
+    surveys.extend((0..DRAWN_ANY).map(|_| drawn::any(&mut chance)));
+    surveys
+}
+
+fn attack_trees(seed: &str, runs: &str, folder: Option<&str>) -> Result<(), String> {
+    let (seed, runs) = (number(seed)?, number(runs)?);
+    println!("seed {seed}");
+    let own = |survey: Survey| {
+        let answer = surveys::figures::answer(&survey, surveys::figures::Version::Right);
+        (survey, answer)
+    };
+    let held = match folder {
+        None => surveys(seed).into_iter().map(own).collect(),
+        Some(folder) => folder::read(Path::new(folder))?,
+    };
+    let (trees, mut cases, mut different) = (held.len(), Vec::new(), 0);
+    for (survey, answer) in held {
+        let (survey, mine) = own(survey);
+        if mine != answer {
+            different += 1;
+            let [printed, own] = [answer.clone(), mine].map(|answer| surveys::printed::text(&answer));
+            println!("settings {}\n{}printed\n{printed}own\n{own}", survey.settings(), survey.list());
+        }
+        cases.extend(surveys::case::Case::of(survey, &answer)?);
+    }
+    let source = if folder.is_some() { "printed" } else { "own" };
+    println!("{trees} surveyed trees, {} of them planned, {source} figures held", cases.len());
+    let mut attack = surveys::attack::Attack::new(cases, Chance::new(seed));
+    attack.all(runs)?;
+    print!("{}", attack.tally.text());
+    let left = attack.tally.survivors();
+    if !left.is_empty() {
+        return Err(format!("wrong figures that no run found out: {left:?}"));
+    }
+    if different > 0 {
+        return Err(format!("printed and own figures differ on {different} trees"));
+    }
     Ok(())
 }
 

@@ -1,0 +1,84 @@
+//! The planner's entries for surveyed trees, as include/planner.h declares them, behind functions that are safe to call.
+
+use crate::entries::{Answer, Memory, Planner};
+use reference::Beside;
+
+/// PLANNER_LONGEST_TREE_TEXT of include/planner.h.
+pub const LONGEST_TREE_TEXT: usize = 48_576;
+
+/// What the entries for trees do, beside those for rows.
+pub trait TreePlanner: Planner {
+    fn check_tree(&self, nodes: Memory, beside: &Beside) -> Answer;
+    fn plan_tree(&self, nodes: Memory, beside: &Beside, text: Memory) -> Answer;
+    fn explain_tree(&self, nodes: Memory, beside: &Beside, line: Memory) -> Answer;
+}
+mod library {
+    use super::*;
+    use crate::entries::{pointer, Library};
+
+    extern "C" {
+        fn planner_check_tree(
+            nodes: *const u8,
+            nodes_length: usize,
+            bo: u32,
+            so: u32,
+            head: u32,
+            data: u32,
+            ack: u32,
+            sink: u32,
+        ) -> Answer;
+        fn planner_plan_tree(
+            nodes: *const u8,
+            nodes_length: usize,
+            bo: u32,
+            so: u32,
+            head: u32,
+            data: u32,
+            ack: u32,
+            sink: u32,
+            text: *mut u8,
+            text_length: usize,
+        ) -> Answer;
+        fn planner_explain_tree(
+            nodes: *const u8,
+            nodes_length: usize,
+            bo: u32,
+            so: u32,
+            head: u32,
+            data: u32,
+            ack: u32,
+            sink: u32,
+            line: *mut u8,
+            line_length: usize,
+        ) -> Answer;
+    }
+
+    impl TreePlanner for Library {
+        fn check_tree(&self, nodes: Memory, beside: &Beside) -> Answer {
+            let (nodes, nodes_length) = pointer(nodes);
+            let Beside { beacon_order, superframe_order, head, data, ack, sink } = *beside;
+            // SAFETY: the pointer is valid for the length beside it, or NULL beside 0, which planner.h allows.
+            unsafe { planner_check_tree(nodes, nodes_length, beacon_order, superframe_order, head, data, ack, sink) }
+        }
+
+        fn plan_tree(&self, nodes: Memory, beside: &Beside, text: Memory) -> Answer {
+            let (nodes, length) = pointer(nodes);
+            let (text, room) = pointer(text);
+            let Beside { beacon_order, superframe_order, head, data, ack, sink } = *beside;
+            // SAFETY: as above; the two are different mutable slices, so the text does not overlap the list.
+            unsafe {
+                planner_plan_tree(nodes, length, beacon_order, superframe_order, head, data, ack, sink, text, room)
+            }
+        }
+
+        fn explain_tree(&self, nodes: Memory, beside: &Beside, line: Memory) -> Answer {
+            let (nodes, length) = pointer(nodes);
+            let (line, room) = pointer(line);
+            let Beside { beacon_order, superframe_order, head, data, ack, sink } = *beside;
+            // SAFETY: as above.
+            unsafe {
+                planner_explain_tree(nodes, length, beacon_order, superframe_order, head, data, ack, sink, line, room)
+            }
+        }
+    }
+}
