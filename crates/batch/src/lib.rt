@@ -29,7 +29,7 @@ use report::put_refusal;
 use row::names_match;
 
 // No input may be longer.
-const LIMIT: usize = 65536;
+pub const LIMIT: usize = 65536;
 
 // What is printed for a row: its plan or an R line, or one line of English.
 pub enum Style {

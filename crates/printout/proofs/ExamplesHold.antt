@@ -1,0 +1,22 @@
+-- The examples of specs/Examples, computed. Assumes nothing.
+use mathlib.Core.Path.{refl}
+use Rattle.decimal.specs.Decimal.{digitsBy, decimal}
+use Rattle.decimal.specs.Number.{numberIn}
+use Rattle.lines.specs.Text.{joined, ended}
+use Rattle.refusals.specs.Refusals.{conflictPlace, treeNumber, treePlace, numberOf, placeOf}
+use Rattle.balanced.specs.Lines.{letter}
+use Rattle.nodes.proofs.Computing.{lists}
+use Rattle.report.specs.Text.{numbers, refusalText}
+use Rattle.report.specs.TreeText.{treeHeader, nodeText, treeText}
+use Rattle.batch.specs.Output.{tooLong}
+use Rattle.printout.specs.Output.{valueOf, isUnreadable, argued, besideOf, sinkOf, argumentConditions, callOutcome, printed, treeOutput}
+use Rattle.printout.specs.Examples.{argumentAt, argumentsIn, balancedList, common, brokenList, examples, ours, ExamplesHold}
+
+-- to unfold `outputs` is to unfold all that an output is computed with
+outputs : Type 0
+unfolding lists digitsBy decimal numberIn joined ended conflictPlace treeNumber treePlace numberOf placeOf letter numbers refusalText treeHeader nodeText treeText tooLong valueOf isUnreadable argued besideOf sinkOf argumentConditions callOutcome printed treeOutput argumentAt argumentsIn
+outputs = Unit
+
+pub examples-hold : ExamplesHold
+unfolding outputs balancedList common brokenList examples ours ExamplesHold
+examples-hold = refl

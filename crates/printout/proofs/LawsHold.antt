@@ -1,0 +1,80 @@
+-- What holds of what is printed. Assumes nothing.
+use mathlib.Core.Path.{_≡_, refl, ap, sym, _∙_}
+use mathlib.Core.List.{List, _++_}
+use Prim.Native.Nat.{ℕ, _≤_, _<_}
+use native.Mathlib.Omega.{arith}
+use lib.ListN.{length, getD}
+use Rattle.decimal.specs.Ascii.{ascii}
+use Rattle.decimal.specs.Decimal.{digitsBy, decimal}
+use Rattle.lines.specs.Text.{joined, ended}
+use Rattle.refusals.specs.declared.Refusal.{Refusal}
+use Rattle.refusals.specs.declared.Refusal.the-variants.{InputTooLong}
+use Rattle.refusals.specs.declared.Verdict.{Verdict}
+use Rattle.refusals.specs.declared.Verdict.the-variants.{Kept, Broken}
+use Rattle.refusals.specs.Refusals.{numberOf, placeOf}
+use Rattle.refusals.specs.Conditions.{Condition, firstBroken, Unbroken}
+use Rattle.refusals.proofs.Answering.{verdict, first-part-answers}
+use Rattle.refusals.proofs.Unbroken.{unbroken-first, first-unbroken, unbroken-append, unbroken-left, unbroken-right}
+use Rattle.tree.specs.declared.NodeLine.{NodeLine}
+use Rattle.tree.specs.Lines.{lines}
+use Rattle.tree.specs.Checks.{conditions}
+use Rattle.tree.specs.Outcome.{Outcome, Planned, Refused}
+use Rattle.tree.specs.Promise.{Keeps}
+use Rattle.tree.proofs.LawsHold.{no-plan, same-lines}
+use Rattle.nodes.specs.Survey.{treeIn, surveyed, outcomeIn}
+use Rattle.nodes.proofs.LawsHold.{every-text-keeps}
+use Rattle.report.specs.Text.{refusalText}
+use Rattle.report.specs.TreeText.{treeHeader, treeText}
+use Rattle.report.proofs.OneTreeText.{one-text-for-trees}
+use Rattle.batch.specs.Output.{tooLong}
+use Rattle.settings.specs.declared.Settings.{Settings}
+use Rattle.printout.specs.declared.Arguments.{Arguments}
+use Rattle.printout.specs.Output.{argued, besideOf, sinkOf, argumentConditions, callOutcome, printed, treeOutput}
+use Rattle.printout.specs.Laws.{LongInputs, TenBeforeTwo, ReadArguments, PrintedLinesKeep}
+use Rattle.printout.proofs.Outputs.{too-long, ten-broken, two-next, call-refused, call-planned, output-refused}
+
+pub long-inputs : LongInputs
+unfolding refusalText numberOf placeOf digitsBy decimal joined ended ascii
+long-inputs a input h = sym (output-refused a input InputTooLong (sym (too-long a input h)))
+
+pub ten-before-two : TenBeforeTwo
+ten-before-two a input r h e = sym (output-refused a input r (sym (ten-broken a input h r e)))
+
+pub read-arguments : ReadArguments
+unfolding treeOutput outcomeIn
+read-arguments a input h k = by (verdict (surveyed input (sinkOf a))) refl where
+  o : Outcome
+  o = outcomeIn input (besideOf a) (sinkOf a)
+
+  by : (v : Verdict) → verdict (surveyed input (sinkOf a)) ≡ v → treeOutput a input ≡ printed o
+  by Kept e = ap printed (sym (call-planned a input (sym (two-next a input h e) ∙ k)))
+  by (Broken r) e =
+      ap printed (sym (call-refused a input r (sym (ten-broken a input h r e))) ∙ first-part-answers Refused (Planned (lines (besideOf a) (treeIn input) (sinkOf a))) (surveyed input (sinkOf a)) (conditions (besideOf a) (treeIn input) (sinkOf a)) r e)
+
+-- no refusal is printed as a plan is
+no-text : (r : Refusal) (p : List NodeLine) → refusalText r ≡ treeText p → ⊥
+unfolding refusalText treeText treeHeader ended joined ascii
+no-text r p e = let f : _≡_ {A = ℕ} 82 75 = ap (λ (l : List ℕ). getD l 0 0) e in omega (arith, f)
+
+pub printed-lines-keep : PrintedLinesKeep
+unfolding treeOutput printed callOutcome argumentConditions outcomeIn
+printed-lines-keep a input p e = by (callOutcome a input) refl e where
+  b : Settings
+  b = besideOf a
+
+  sink : ℕ
+  sink = sinkOf a
+
+  own : List NodeLine
+  own = lines b (treeIn input) sink
+
+  by : (o : Outcome) → callOutcome a input ≡ o → printed o ≡ treeText p → Keeps b (treeIn input) sink p
+  by (Refused r) q w = absurd (no-text r p w)
+  by (Planned l) q w =
+      let checked = conditions b (treeIn input) sink in
+      let u = first-unbroken Refused (Planned own) (Planned l) (no-plan l) (argumentConditions a input ++ checked) q in
+      let s = unbroken-right (tooLong input) (surveyed input sink) (unbroken-left (tooLong input ++ surveyed input sink) (argued a) (unbroken-left (argumentConditions a input) checked (u .0))) in
+      let c = unbroken-right (argumentConditions a input) checked (u .0) in
+      let same : l ≡ p = one-text-for-trees l p w in
+      every-text-keeps input b sink p
+      (unbroken-first Refused (Planned own) (surveyed input sink ++ checked) (unbroken-append (surveyed input sink) checked s c) ∙ u .1 ∙ ap Planned same)

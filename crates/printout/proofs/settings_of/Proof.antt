@@ -1,0 +1,41 @@
+-- `printout::settings_of` meets its contract. Assumes nothing.
+use Rattle.printout.specs.Output.{besideOf}
+use mathlib.Core.Path.{_∙_}
+use borrow.Author.Needs.{needs}
+use Rattle.printout.proofs.settings_of.Statement.{statement}
+use Rattle.printout.proofs.settings_of.Tie as tie
+
+value-of-requires : tie.Need-value-of-requires
+value-of-requires c κs = search needs
+
+value-of-requires-2 : tie.Need-value-of-requires-2
+value-of-requires-2 c κs = search needs
+
+value-of-requires-3 : tie.Need-value-of-requires-3
+value-of-requires-3 c κs = search needs
+
+value-of-requires-4 : tie.Need-value-of-requires-4
+value-of-requires-4 c κs = search needs
+
+value-of-requires-5 : tie.Need-value-of-requires-5
+value-of-requires-5 c κs = search needs
+
+beside-requires : tie.Need-beside-requires
+beside-requires c κs = search needs
+
+returns : tie.Need-returns
+unfolding besideOf
+returns c =
+    rw (c .beside .ensures, c .before .before .before .before .before .value-of .ensures, c .before .before .before .before .value-of2 .ensures, c .before .before .before .value-of3 .ensures, c .before .before .value-of4 .ensures, c .before .value-of5 .ensures)
+
+pub settings-of-spec : {M : Type 1} → statement M
+settings-of-spec =
+    tie.close
+    (tie.spec
+    value-of-requires
+    value-of-requires-2
+    value-of-requires-3
+    value-of-requires-4
+    value-of-requires-5
+    beside-requires
+    returns)

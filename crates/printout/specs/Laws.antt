@@ -1,0 +1,34 @@
+-- What holds of what is printed. Assumes nothing: these are statements; proofs/LawsHold proves them.
+use mathlib.Core.Path.{_≡_}
+use mathlib.Core.List.{List}
+use Prim.Native.Nat.{ℕ, _≤_, _<_}
+use lib.ListN.{length}
+use Rattle.decimal.specs.Ascii.{ascii}
+use Rattle.refusals.specs.declared.Refusal.{Refusal}
+use Rattle.refusals.specs.declared.Verdict.the-variants.{Kept, Broken}
+use Rattle.refusals.specs.Conditions.{firstBroken}
+use Rattle.tree.specs.declared.NodeLine.{NodeLine}
+use Rattle.tree.specs.Promise.{Keeps}
+use Rattle.nodes.specs.Survey.{treeIn, surveyed, outcomeIn}
+use Rattle.report.specs.Text.{refusalText}
+use Rattle.report.specs.TreeText.{treeText}
+use Rattle.printout.specs.declared.Arguments.{Arguments}
+use Rattle.printout.specs.Output.{argued, besideOf, sinkOf, printed, treeOutput}
+
+-- over 65,536 bytes one line is all, whatever they and the arguments are
+abbrev pub LongInputs : Type 0
+LongInputs = (a : Arguments) (input : List ℕ) → 65536 < length input → treeOutput a input ≡ ascii "R 9 0\n"
+
+-- else number 10 is answered, whatever the other arguments are
+abbrev pub TenBeforeTwo : Type 0
+TenBeforeTwo = (a : Arguments) (input : List ℕ) (r : Refusal) → length input ≤ 65536
+    → firstBroken Broken Kept (surveyed input (sinkOf a)) ≡ Broken r → treeOutput a input ≡ refusalText r
+
+-- arguments that can be read are settings beside and a sink, and what is printed is the text's outcome with them
+abbrev pub ReadArguments : Type 0
+ReadArguments = (a : Arguments) (input : List ℕ) → length input ≤ 65536 → firstBroken Broken Kept (argued a) ≡ Kept
+    → treeOutput a input ≡ printed (outcomeIn input (besideOf a) (sinkOf a))
+
+-- demand 3 of what is printed: of ANY lines whose text it is
+abbrev pub PrintedLinesKeep : Type 0
+PrintedLinesKeep = (a : Arguments) (input : List ℕ) (p : List NodeLine) → treeOutput a input ≡ treeText p → Keeps (besideOf a) (treeIn input) (sinkOf a) p
