@@ -11,5 +11,7 @@ pub mod TreeRooms
 pub mod LawsHold
 -- a text that breaks the promise
 pub mod Breaks
+-- and texts that break a surveyed tree's
+pub mod TreeBreaks
 -- the examples
 pub mod ExamplesHold

@@ -11,6 +11,8 @@ pub mod Promise
 pub mod TreePromise
 -- a text that breaks the promise: it is about something
 pub mod Broken
+-- and texts that break a surveyed tree's
+pub mod TreeBroken
 -- what holds of these, for those who call the entries
 pub mod Laws
 -- calls with buffers at the edges, computed in one table

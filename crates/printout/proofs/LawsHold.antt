@@ -1,9 +1,9 @@
 -- What holds of what is printed. Assumes nothing.
 use mathlib.Core.Path.{_≡_, refl, ap, sym, _∙_}
 use mathlib.Core.List.{List, _++_}
-use Prim.Native.Nat.{ℕ, _≤_, _<_}
+use Prim.Native.Nat.{ℕ}
 use native.Mathlib.Omega.{arith}
-use lib.ListN.{length, getD}
+use lib.ListN.{getD}
 use Rattle.decimal.specs.Ascii.{ascii}
 use Rattle.decimal.specs.Decimal.{digitsBy, decimal}
 use Rattle.lines.specs.Text.{joined, ended}
@@ -12,7 +12,6 @@ use Rattle.refusals.specs.declared.Refusal.the-variants.{InputTooLong}
 use Rattle.refusals.specs.declared.Verdict.{Verdict}
 use Rattle.refusals.specs.declared.Verdict.the-variants.{Kept, Broken}
 use Rattle.refusals.specs.Refusals.{numberOf, placeOf}
-use Rattle.refusals.specs.Conditions.{Condition, firstBroken, Unbroken}
 use Rattle.refusals.proofs.Answering.{verdict, first-part-answers}
 use Rattle.refusals.proofs.Unbroken.{unbroken-first, first-unbroken, unbroken-append, unbroken-left, unbroken-right}
 use Rattle.tree.specs.declared.NodeLine.{NodeLine}
@@ -20,7 +19,7 @@ use Rattle.tree.specs.Lines.{lines}
 use Rattle.tree.specs.Checks.{conditions}
 use Rattle.tree.specs.Outcome.{Outcome, Planned, Refused}
 use Rattle.tree.specs.Promise.{Keeps}
-use Rattle.tree.proofs.LawsHold.{no-plan, same-lines}
+use Rattle.tree.proofs.LawsHold.{no-plan}
 use Rattle.nodes.specs.Survey.{treeIn, surveyed, outcomeIn}
 use Rattle.nodes.proofs.LawsHold.{every-text-keeps}
 use Rattle.report.specs.Text.{refusalText}
@@ -28,7 +27,6 @@ use Rattle.report.specs.TreeText.{treeHeader, treeText}
 use Rattle.report.proofs.OneTreeText.{one-text-for-trees}
 use Rattle.batch.specs.Output.{tooLong}
 use Rattle.settings.specs.declared.Settings.{Settings}
-use Rattle.printout.specs.declared.Arguments.{Arguments}
 use Rattle.printout.specs.Output.{argued, besideOf, sinkOf, argumentConditions, callOutcome, printed, treeOutput}
 use Rattle.printout.specs.Laws.{LongInputs, TenBeforeTwo, ReadArguments, PrintedLinesKeep}
 use Rattle.printout.proofs.Outputs.{too-long, ten-broken, two-next, call-refused, call-planned, output-refused}

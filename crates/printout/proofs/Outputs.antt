@@ -1,25 +1,22 @@
 -- What is printed for a surveyed tree, as code finds it. Assumes nothing.
 use mathlib.Core.Path.{_≡_, refl, ap, sym, _∙_}
-use mathlib.Core.Bool.{Bool, true, false, cond}
-use mathlib.Core.List.{List, [], _∷_, _++_}
+use mathlib.Core.Bool.{true, false}
+use mathlib.Core.List.{List, [], _++_}
 use Prim.Native.Nat.{ℕ, _≤_, _<_}
 use lib.ListN.{length}
-use lib.Seq.{sets}
 use borrow.Author.Tests.{lt-ltb, le-ltb}
 use Rattle.decimal.specs.declared.Number.{Number}
 use Rattle.decimal.specs.declared.Number.the-variants as number
 use Rattle.refusals.specs.declared.Refusal.{Refusal}
 use Rattle.refusals.specs.declared.Refusal.the-variants.{Unreadable, TextAfter, InputTooLong}
-use Rattle.refusals.specs.declared.Verdict.{Verdict}
 use Rattle.refusals.specs.declared.Verdict.the-variants.{Kept, Broken}
-use Rattle.refusals.specs.Conditions.{Condition, condition, firstBroken}
+use Rattle.refusals.specs.Conditions.{Condition, firstBroken}
 use Rattle.refusals.proofs.Answering.{verdict, broken-kept, first-part-answers, second-part-answers}
 use Rattle.refusals.proofs.Unbroken.{kept-unbroken, unbroken-first, unbroken-left, unbroken-right}
 use Rattle.settings.specs.declared.Settings.{Settings}
 use Rattle.planner.specs.declared.Plan.{Plan}
 use Rattle.planner.specs.Plans.{refused}
 use Rattle.report.specs.Text.{refusalText}
-use Rattle.report.specs.TreeText.{treeText}
 use Rattle.tree.specs.declared.NodeLine.{NodeLine}
 use Rattle.tree.specs.Lines.{lines}
 use Rattle.tree.specs.Checks.{conditions}
@@ -28,7 +25,7 @@ use Rattle.nodes.specs.Survey.{treeIn, surveyed, outcomeIn}
 use Rattle.surveys.specs.Plans.{planned, answer, written}
 use Rattle.printout.specs.declared.Arguments.{Arguments}
 use Rattle.batch.specs.Output.{tooLong}
-use Rattle.printout.specs.Output.{valueOf, isUnreadable, unread, argued, besideOf, sinkOf, argumentConditions, callOutcome, printed, treeOutput}
+use Rattle.printout.specs.Output.{isUnreadable, argued, besideOf, sinkOf, argumentConditions, callOutcome, printed, treeOutput}
 
 -- ---- numbers 9, 10 and 2
 

@@ -6,7 +6,7 @@ ghost use lib.Seq.{sets};
 ghost use Rattle.refusals.specs.declared.Verdict.the-variants.{Kept, Broken};
 ghost use Rattle.refusals.specs.declared.Refusal.the-variants.{Unreadable};
 ghost use Rattle.refusals.specs.Conditions.{firstBroken};
-ghost use Rattle.printout.specs.Output.{valueOf, argued, argumentConditions, besideOf, treeOutput};
+ghost use Rattle.printout.specs.Output.{valueOf, argued, argumentConditions, besideOf, sinkOf, treeOutput};
 use batch::LIMIT;
 use decimal::Number;
 use refusals::Refusal;
@@ -38,8 +38,7 @@ pub fn put_tree_output(arguments: Arguments, input: &[u8], out: &mut [u8]) -> us
     if let Verdict::Broken(refusal) = verdict {
         return put_refusal(out, refusal);
     }
-    let sink = arguments.sink;
-    let plan = plan_tree(input, settings_of(arguments), value_of(sink), out);
+    let plan = plan_tree(input, settings_of(arguments), sink_of(arguments), out);
     let verdict = plan.verdict;
     if let Verdict::Broken(refusal) = verdict {
         return put_refusal(out, refusal);
@@ -54,8 +53,7 @@ fn check_call(arguments: Arguments, input: &[u8]) -> Verdict
     if LIMIT < input.len() {
         return Verdict::Broken(Refusal::InputTooLong);
     }
-    let sink = arguments.sink;
-    let verdict = check_list(input, value_of(sink));
+    let verdict = check_list(input, sink_of(arguments));
     if let Verdict::Broken(_) = verdict {
         return verdict;
     }
@@ -115,6 +113,14 @@ fn settings_of(arguments: Arguments) -> Settings
         value_of(payload),
         value_of(ack),
     )
+}
+
+// The sink's node.
+fn sink_of(arguments: Arguments) -> u64
+    ensures { λ r. ⌜ r ≡ sinkOf arguments ⌝ }
+{
+    let sink = arguments.sink;
+    value_of(sink)
 }
 
 // The value of an argument; 0 where it cannot be read. No node is number 0.

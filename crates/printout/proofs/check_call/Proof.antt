@@ -1,10 +1,9 @@
 -- `printout::check_call` meets its contract. Assumes nothing.
-use mathlib.Core.Path.{_≡_, ap, sym, _∙_}
+use mathlib.Core.Path.{ap, sym, _∙_}
 use native.Mathlib.Omega.{arith}
 use Rattle.refusals.specs.declared.Verdict.the-variants.{Kept, Broken}
 use Rattle.refusals.specs.Conditions.{firstBroken}
 use Rattle.nodes.specs.Survey.{surveyed}
-use Rattle.printout.specs.Output.{sinkOf}
 use Rattle.printout.proofs.Outputs.{too-long, ten-broken, two-next}
 use Prim.Native.Nat.{ℕ}
 use borrow.Author.Needs.{needs}
@@ -14,8 +13,8 @@ use Rattle.printout.proofs.check_call.Tie as tie
 returns : tie.Need-returns
 returns c = too-long (c .before .before .args .arguments) (c .before .before .args .input .now) (omega (arith, c .if1 .taken))
 
-value-of-requires : tie.Need-value-of-requires
-value-of-requires c κs = search needs
+sink-of-requires : tie.Need-sink-of-requires
+sink-of-requires c κs = search needs
 
 check-list-requires : tie.Need-check-list-requires
 check-list-requires c κs = search needs
@@ -24,10 +23,9 @@ enum-told : tie.Need-enum-told
 enum-told c = search needs
 
 returns-2 : tie.Need-returns-2
-unfolding sinkOf
 returns-2 c =
     let a = c .before .before .before .before .before .before .args in
-    let asked = ap (λ (v : ℕ). firstBroken Broken Kept (surveyed (a .input .now) v)) (c .before .before .before .value-of .ensures) in
+    let asked = ap (λ (v : ℕ). firstBroken Broken Kept (surveyed (a .input .now) v)) (c .before .before .before .sink-of .ensures) in
     let found = c .enum-told .given .1 in
     found ∙ ten-broken (a .arguments) (a .input .now) (omega (arith, c .before .before .before .before .if1 .left)) _ (sym asked ∙ sym (c .before .before .check-list .ensures) ∙ found)
 
@@ -38,10 +36,9 @@ check-arguments-requires : tie.Need-check-arguments-requires
 check-arguments-requires c κs = search needs
 
 returns-3 : tie.Need-returns-3
-unfolding sinkOf
 returns-3 c =
     let a = c .before .before .before .before .before .before .before .args in
-    let asked = ap (λ (v : ℕ). firstBroken Broken Kept (surveyed (a .input .now) v)) (c .before .before .before .before .value-of .ensures) in
+    let asked = ap (λ (v : ℕ). firstBroken Broken Kept (surveyed (a .input .now) v)) (c .before .before .before .before .sink-of .ensures) in
     let found = c .before .enum-told2 .given .1 in
     (c .check-arguments .ensures) ∙ two-next (a .arguments) (a .input .now) (omega (arith, c .before .before .before .before .before .if1 .left)) (sym asked ∙ sym (c .before .before .before .check-list .ensures) ∙ found)
 
@@ -50,7 +47,7 @@ check-call-spec =
     tie.close
     (tie.spec
     returns
-    value-of-requires
+    sink-of-requires
     check-list-requires
     enum-told
     returns-2

@@ -1,14 +1,13 @@
 -- `printout::put_tree_output` meets its contract. Assumes nothing.
 use mathlib.Core.Path.{_≡_, ap, ap₂, sym, _∙_}
 use mathlib.Core.List.{List}
-use Prim.Native.Nat.{ℕ, _≤_}
+use Prim.Native.Nat.{ℕ}
 use native.Mathlib.Omega.{arith}
 use lib.ListN.{length}
 use lib.Seq.{sets}
 use Rattle.nodes.specs.Survey.{outcomeIn}
 use Rattle.settings.specs.declared.Settings.{Settings}
 use Rattle.surveys.specs.Plans.{answer, written}
-use Rattle.printout.specs.Output.{besideOf, sinkOf, treeOutput}
 use Rattle.printout.proofs.Outputs.{output-refused, plan-refused, plan-planned}
 use borrow.Author.Needs.{needs}
 use Rattle.printout.proofs.put_tree_output.Statement.{statement}
@@ -39,8 +38,8 @@ enum-told c = search needs
 settings-of-requires : tie.Need-settings-of-requires
 settings-of-requires c κs = search needs
 
-value-of-requires : tie.Need-value-of-requires
-value-of-requires c κs = search needs
+sink-of-requires : tie.Need-sink-of-requires
+sink-of-requires c κs = search needs
 
 plan-tree-requires : tie.Need-plan-tree-requires
 plan-tree-requires c κs = search needs
@@ -55,13 +54,12 @@ same-length-2 : tie.Need-same-length-2
 same-length-2 c = search needs
 
 returns-2 : tie.Need-returns-2
-unfolding sinkOf
 returns-2 c =
     let a = c .before .before .before .before .before .before .before .before .before .before .before .before .before .before .before .before .before .before .args in
     let k = sym (c .before .before .before .before .before .before .before .before .before .before .before .before .before .before .before .check-call .ensures) ∙ c .before .before .before .before .before .before .before .before .before .before .before .before .before .enum-told .given .1 in
     let plan = c .before .before .before .before .before .before .before .before .before .plan-tree in
     let w = plan .ensures in
-    let o = ap₂ (λ (b : Settings) (s : ℕ). outcomeIn (a .input .now) b s) (c .before .before .before .before .before .before .before .before .before .before .before .before .settings-of .ensures) (c .before .before .before .before .before .before .before .before .before .before .before .value-of .ensures) in
+    let o = ap₂ (λ (b : Settings) (s : ℕ). outcomeIn (a .input .now) b s) (c .before .before .before .before .before .before .before .before .before .before .before .before .settings-of .ensures) (c .before .before .before .before .before .before .before .before .before .before .before .sink-of .ensures) in
     let e = plan-refused (a .arguments) (a .input .now) k (plan .result) (w .0 ∙ ap answer o) _ (c .before .before .before .before .before .verdict2 .given .1) in
     let put = c .before .before .put-refusal2 .ensures in
     let same : plan .last .1 .1 .1 .0 ≡ a .out .now = w .1 .1 .0 ∙ ap (λ (t : List ℕ). sets (a .out .now) 0 t) (ap written o ∙ sym (e .1)) in
@@ -74,13 +72,12 @@ same-length-3 : tie.Need-same-length-3
 same-length-3 c = search needs
 
 returns-3 : tie.Need-returns-3
-unfolding sinkOf
 returns-3 c =
     let a = c .before .before .before .before .before .before .before .before .before .before .before .before .before .args in
     let k = sym (c .before .before .before .before .before .before .before .before .before .before .check-call .ensures) ∙ c .before .before .before .before .before .before .before .before .enum-told .given .1 in
     let plan = c .before .before .before .before .plan-tree in
     let w = plan .ensures in
-    let o = ap₂ (λ (b : Settings) (s : ℕ). outcomeIn (a .input .now) b s) (c .before .before .before .before .before .before .before .settings-of .ensures) (c .before .before .before .before .before .before .value-of .ensures) in
+    let o = ap₂ (λ (b : Settings) (s : ℕ). outcomeIn (a .input .now) b s) (c .before .before .before .before .before .before .before .settings-of .ensures) (c .before .before .before .before .before .before .sink-of .ensures) in
     let e = plan-planned (a .arguments) (a .input .now) k (plan .result) (w .0 ∙ ap answer o) (c .enum-told2 .given .1) in
     (e .0, (w .1 .0, w .1 .1 .0 ∙ ap (λ (t : List ℕ). sets (a .out .now) 0 t) (ap written o ∙ e .1)))
 
@@ -95,7 +92,7 @@ put-tree-output-spec =
     returns
     enum-told
     settings-of-requires
-    value-of-requires
+    sink-of-requires
     plan-tree-requires
     enum-known-verdict-2
     put-refusal-requires-2

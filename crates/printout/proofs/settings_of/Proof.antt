@@ -1,6 +1,5 @@
 -- `printout::settings_of` meets its contract. Assumes nothing.
 use Rattle.printout.specs.Output.{besideOf}
-use mathlib.Core.Path.{_∙_}
 use borrow.Author.Needs.{needs}
 use Rattle.printout.proofs.settings_of.Statement.{statement}
 use Rattle.printout.proofs.settings_of.Tie as tie

@@ -1,5 +1,5 @@
 -- `printout::value_of` meets its contract. Assumes nothing.
-use mathlib.Core.Path.{refl, sym, ap}
+use mathlib.Core.Path.{sym, ap}
 use Rattle.printout.specs.Output.{valueOf}
 use borrow.Author.Needs.{needs}
 use Rattle.printout.proofs.value_of.Statement.{statement}
