@@ -1,100 +1,67 @@
-//! Rounds: in each, the same rows go through the planner, through the reference, and their plans through formatting.
+//! Rounds: in each, the same calls go through the planner and through the reference, and their answers must agree.
 
-use compare::entries::{Answer, Library, Planner, LONGEST_TEXT};
-use reference::{plan_named_row, plan_row, write_plan, Plan, NAMES};
+use crate::figures::{median, range};
+use compare::entries::Answer;
+use reference::Refusal;
 use std::hint::black_box;
 use std::time::Instant;
 
-/// The rows, the plans of those that are planned, and the memories that are used again and again.
-pub struct Bench {
-    names: Vec<u8>,
-    rows: Vec<Vec<u8>>,
-    plans: Vec<Plan>,
-    buffer: Vec<u8>,
-    text: Vec<u8>,
+/// The calls of a round. Both sides make them all and give the checksum of the answers.
+pub trait Calls {
+    fn ours(&mut self) -> u64;
+    fn reference(&mut self) -> u64;
 }
 
-/// Seconds that the rows took in one round.
-pub struct Round {
-    pub ours: f64,
-    pub reference: f64,
-    pub formatting: f64,
+/// Seconds that the calls took, round by round.
+#[derive(Default)]
+pub struct Times {
+    pub ours: Vec<f64>,
+    pub reference: Vec<f64>,
 }
 
-impl Bench {
-    pub fn new(rows: Vec<Vec<u8>>) -> Bench {
-        let plans = rows.iter().filter_map(|row| plan_row(row).ok()).collect();
-        let names = NAMES.as_bytes().to_vec();
-        Bench { names, rows, plans, buffer: vec![0; LONGEST_TEXT], text: Vec::with_capacity(LONGEST_TEXT) }
-    }
-
-    pub fn rows(&self) -> usize {
-        self.rows.len()
-    }
-
-    pub fn plans(&self) -> usize {
-        self.plans.len()
-    }
-
-    /// Times a round; its answers must agree.
-    pub fn round(&mut self) -> Result<Round, String> {
-        let (ours, our_sum) = timed(|| self.ours());
-        let (reference, reference_sum) = timed(|| self.reference());
-        let (formatting, _) = timed(|| self.formatting());
-        if our_sum == reference_sum {
-            Ok(Round { ours, reference, formatting })
-        } else {
-            Err(format!("CHECKSUMS DIFFER: ours {our_sum}, reference {reference_sum}"))
+impl Times {
+    /// Times one more round; its answers must agree.
+    pub fn add_round(&mut self, calls: &mut impl Calls) -> Result<(), String> {
+        let (ours, our_sum) = timed(|| calls.ours());
+        let (reference, reference_sum) = timed(|| calls.reference());
+        if our_sum != reference_sum {
+            return Err(format!("CHECKSUMS DIFFER: ours {our_sum}, reference {reference_sum}"));
         }
+        self.ours.push(ours);
+        self.reference.push(reference);
+        Ok(())
     }
 
-    fn ours(&mut self) -> u64 {
-        let mut sum = 0;
-        for row in &mut self.rows {
-            let names = Some(black_box(&mut self.names[..]));
-            let answer = Library.plan_row(names, Some(black_box(row)), Some(&mut self.buffer));
-            black_box(&mut self.buffer);
-            sum = add(sum, answer);
-        }
-        sum
+    /// How many times as fast as the reference ours is. There was at least one round.
+    pub fn ratio(&self) -> String {
+        let ratios: Vec<f64> =
+            self.reference.iter().zip(&self.ours).map(|(reference, ours)| reference / ours).collect();
+        let (smallest, largest) = range(&ratios);
+        let median = median(ratios);
+        format!("ours / reference {median:.3}, smallest {smallest:.3}, largest {largest:.3} (above 1: ours is faster)")
     }
+}
 
-    fn reference(&mut self) -> u64 {
-        let mut sum = 0;
-        for row in &self.rows {
-            self.text.clear();
-            let answer = match plan_named_row(black_box(&self.names), black_box(row)) {
-                Ok(plan) => {
-                    write_plan(&plan, &mut self.text);
-                    Answer { number: 0, place: 0, length: self.text.len() as u64 }
-                }
-                Err(refusal) => Answer { number: refusal.number, place: refusal.place, length: 0 },
-            };
-            black_box(&mut self.text);
-            sum = add(sum, answer);
+/// The answer that the reference's outcome comes to; the plan's text is all that the memory holds then.
+pub fn answer<P>(outcome: Result<P, Refusal>, write: impl Fn(&P, &mut Vec<u8>), text: &mut Vec<u8>) -> Answer {
+    text.clear();
+    match outcome {
+        Ok(plan) => {
+            write(&plan, text);
+            Answer { number: 0, place: 0, length: text.len() as u64 }
         }
-        sum
-    }
-
-    fn formatting(&mut self) -> u64 {
-        let mut sum = 0;
-        for plan in &self.plans {
-            self.text.clear();
-            write_plan(black_box(plan), &mut self.text);
-            black_box(&mut self.text);
-            sum += self.text.len() as u64;
-        }
-        sum
+        Err(refusal) => Answer { number: refusal.number, place: refusal.place, length: 0 },
     }
 }
 
 /// A checksum of answers in their order, modulo 2^64.
-fn add(sum: u64, answer: Answer) -> u64 {
+pub fn add(sum: u64, answer: Answer) -> u64 {
     let refusal = u64::from(answer.number) << 32 | u64::from(answer.place) << 40;
     sum.wrapping_mul(31).wrapping_add(answer.length + refusal)
 }
 
-fn timed(work: impl FnOnce() -> u64) -> (f64, u64) {
+/// The seconds that the work took, and what it gave.
+pub fn timed(work: impl FnOnce() -> u64) -> (f64, u64) {
     let start = Instant::now();
     let sum = black_box(work());
     (start.elapsed().as_secs_f64(), sum)
@@ -104,12 +71,32 @@ fn timed(work: impl FnOnce() -> u64) -> (f64, u64) {
 mod tests {
     use super::*;
 
+    /// Calls with these checksums.
+    struct Sums(u64, u64);
+
+    impl Calls for Sums {
+        fn ours(&mut self) -> u64 {
+            self.0
+        }
+
+        fn reference(&mut self) -> u64 {
+            self.1
+        }
+    }
+
     #[test]
-    fn a_round_agrees() {
-        let rows = ["8 4 1 2 1 0 0 1 1 19 7 0", "8 4 1 2 1 0 1 1 1 19 7 0", "x"];
-        let mut bench = Bench::new(rows.map(|row| row.as_bytes().to_vec()).to_vec());
-        assert_eq!((bench.rows(), bench.plans()), (3, 2));
-        assert!(bench.round().is_ok());
+    fn answers_must_agree() {
+        let mut times = Times::default();
+        assert_eq!(times.add_round(&mut Sums(5, 5)), Ok(()));
+        assert_eq!(times.add_round(&mut Sums(5, 6)), Err("CHECKSUMS DIFFER: ours 5, reference 6".to_string()));
+        assert_eq!((times.ours.len(), times.reference.len()), (1, 1));
+    }
+
+    #[test]
+    fn the_ratio_is_that_of_the_speeds() {
+        let times = Times { ours: vec![1.0, 1.0, 2.0], reference: vec![1.5, 2.0, 1.0] };
+        let ratio = "ours / reference 1.500, smallest 0.500, largest 2.000 (above 1: ours is faster)";
+        assert_eq!(times.ratio(), ratio);
     }
 
     #[test]

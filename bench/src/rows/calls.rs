@@ -1,0 +1,82 @@
+//! The calls of a round on rows: the same rows go through the planner, through the reference, and their plans through
+//! formatting.
+
+use crate::rounds::{add, answer, Calls};
+use compare::entries::{Library, Planner, LONGEST_TEXT};
+use reference::{plan_named_row, plan_row, write_plan, Plan, NAMES};
+use std::hint::black_box;
+
+/// The rows, the plans of those that are planned, and the memories that are used again and again.
+pub struct RowCalls {
+    names: Vec<u8>,
+    rows: Vec<Vec<u8>>,
+    plans: Vec<Plan>,
+    buffer: Vec<u8>,
+    text: Vec<u8>,
+}
+
+impl RowCalls {
+    pub fn new(rows: Vec<Vec<u8>>) -> RowCalls {
+        let plans = rows.iter().filter_map(|row| plan_row(row).ok()).collect();
+        let names = NAMES.as_bytes().to_vec();
+        RowCalls { names, rows, plans, buffer: vec![0; LONGEST_TEXT], text: Vec::with_capacity(LONGEST_TEXT) }
+    }
+
+    pub fn rows(&self) -> usize {
+        self.rows.len()
+    }
+
+    pub fn plans(&self) -> usize {
+        self.plans.len()
+    }
+
+    /// Writes the plans alone; gives the length of all texts.
+    pub fn formatting(&mut self) -> u64 {
+        let mut sum = 0;
+        for plan in &self.plans {
+            self.text.clear();
+            write_plan(black_box(plan), &mut self.text);
+            black_box(&mut self.text);
+            sum += self.text.len() as u64;
+        }
+        sum
+    }
+}
+
+impl Calls for RowCalls {
+    fn ours(&mut self) -> u64 {
+        let mut sum = 0;
+        for row in &mut self.rows {
+            let names = Some(black_box(&mut self.names[..]));
+            let answer = Library.plan_row(names, Some(black_box(row)), Some(&mut self.buffer));
+            black_box(&mut self.buffer);
+            sum = add(sum, answer);
+        }
+        sum
+    }
+
+    fn reference(&mut self) -> u64 {
+        let mut sum = 0;
+        for row in &self.rows {
+            let outcome = plan_named_row(black_box(&self.names), black_box(row));
+            let answer = answer(outcome, write_plan, &mut self.text);
+            black_box(&mut self.text);
+            sum = add(sum, answer);
+        }
+        sum
+    }
+}
+
+#[cfg(test)]
+mod tests {
+    use super::*;
+    use crate::rounds::Times;
+
+    #[test]
+    fn a_round_agrees() {
+        let rows = ["8 4 1 2 1 0 0 1 1 19 7 0", "8 4 1 2 1 0 1 1 1 19 7 0", "x"];
+        let mut calls = RowCalls::new(rows.map(|row| row.as_bytes().to_vec()).to_vec());
+        assert_eq!((calls.rows(), calls.plans()), (3, 2));
+        assert_eq!(Times::default().add_round(&mut calls), Ok(()));
+    }
+}
