@@ -1,8 +1,6 @@
 -- Laws about the definitions of specs/. Assumes nothing.
 -- the outcome of a row is that of the row that was read
 pub mod Reading
--- an outcome from the plan that answers it
-pub mod Answering
 -- all that the answer to a row's bytes is computed with
 pub mod Computing
 -- the examples

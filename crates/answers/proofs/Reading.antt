@@ -14,7 +14,8 @@ use Rattle.row.specs.declared.Row.the-variants as row
 use Rattle.row.specs.Rows as rows
 use Rattle.balanced.specs.Checks as balanced
 use Rattle.balanced.specs.Lines.{lines}
-use Rattle.balanced.specs.Outcome.{Outcome, Planned, Refused, outcomeOf}
+use Rattle.refusals.specs.Outcome.{Planned, Refused}
+use Rattle.balanced.specs.Outcome.{RowOutcome, outcomeOf}
 use Rattle.answers.specs.Outcomes.{spelledSettings, rowConditions, rowOutcome, namedOutcome}
 use Rattle.answers.specs.Inner.{readOutcome}
 
@@ -55,7 +56,7 @@ before-settings : (s : Settings) (cs : List (Condition Refusal))
 before-settings s cs =
     outcome-through s (cs ++ checks s)
     ∙ first-append Refused (outcomeOf s) cs (checks s)
-    ∙ ap (λ (a : Outcome). firstBroken Refused a cs) (checked-again s)
+    ∙ ap (λ (a : RowOutcome). firstBroken Refused a cs) (checked-again s)
     ∙ sym (first-append Refused (Planned (lines s)) cs (balanced.conditions s))
 
 pub row-outcome : (r : List ℕ) → readOutcome (rows.rowOf r) ≡ rowOutcome r

@@ -5,11 +5,12 @@ use Prim.Native.Nat.{ℕ}
 use Prim.Native.String.{String}
 use Rattle.decimal.specs.Ascii.{ascii}
 use Rattle.refusals.specs.Refusals.{numberOf, placeOf}
-use Rattle.balanced.specs.Outcome.{Outcome, Planned, Refused}
+use Rattle.refusals.specs.Outcome.{Planned, Refused}
+use Rattle.balanced.specs.Outcome.{RowOutcome}
 use Rattle.answers.specs.Outcomes.{rowOutcome, namedOutcome}
 
 -- number and place of a refusal; 0 and 0 where the row is planned
-unfoldable pub answered : Outcome → List ℕ
+unfoldable pub answered : RowOutcome → List ℕ
 answered (Planned p) = 0 ∷ 0 ∷ []
 answered (Refused r) = numberOf r ∷ placeOf r ∷ []
 

@@ -1,8 +1,9 @@
 -- The outcome of a row that was read, or refused while it was read. Assumes nothing: these are definitions.
 use Rattle.row.specs.declared.Row.{Row}
 use Rattle.row.specs.declared.Row.the-variants as row
-use Rattle.balanced.specs.Outcome.{Outcome, Refused, outcomeOf}
+use Rattle.refusals.specs.Outcome.{Refused}
+use Rattle.balanced.specs.Outcome.{RowOutcome, outcomeOf}
 
-unfoldable pub readOutcome : Row → Outcome
+unfoldable pub readOutcome : Row → RowOutcome
 readOutcome (row.Read s) = outcomeOf s
 readOutcome (row.Refused r) = Refused r

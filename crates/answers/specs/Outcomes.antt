@@ -10,7 +10,8 @@ use Rattle.settings.specs.Columns.{table}
 use Rattle.row.specs.Rows.{named, written, valuesIn, settingsOf}
 use Rattle.balanced.specs.Checks as balanced
 use Rattle.balanced.specs.Lines.{lines}
-use Rattle.balanced.specs.Outcome.{Outcome, Planned, Refused}
+use Rattle.refusals.specs.Outcome.{Planned, Refused}
+use Rattle.balanced.specs.Outcome.{RowOutcome}
 
 -- the settings that a row spells
 unfoldable pub spelledSettings : List ℕ → Settings
@@ -21,9 +22,9 @@ unfoldable pub rowConditions : List ℕ → List (Condition Refusal)
 rowConditions row = written 1 table (fields row) ++ balanced.conditions (spelledSettings row)
 
 -- "Checked in the order of this table, the first failure answering": a row without its LF
-unfoldable pub rowOutcome : List ℕ → Outcome
+unfoldable pub rowOutcome : List ℕ → RowOutcome
 rowOutcome row = firstBroken Refused (Planned (lines (spelledSettings row))) (rowConditions row)
 
 -- a row under a name line, both without their LF: numbers 1 to 7
-unfoldable pub namedOutcome : List ℕ → List ℕ → Outcome
+unfoldable pub namedOutcome : List ℕ → List ℕ → RowOutcome
 namedOutcome names row = firstBroken Refused (Planned (lines (spelledSettings row))) (named names ++ rowConditions row)

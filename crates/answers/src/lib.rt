@@ -5,6 +5,7 @@
 ghost use mathlib.Core.Path.{_≡_};
 ghost use Prim.Native.Nat.{_≤_};
 ghost use lib.Seq.{sets};
+ghost use Rattle.report.specs.Text.{text};
 ghost use Rattle.planner.specs.Plans.{answer, written};
 ghost use Rattle.answers.specs.Outcomes.{rowOutcome, namedOutcome};
 ghost use Rattle.answers.specs.Inner.{readOutcome};
@@ -17,27 +18,27 @@ use row::read_row;
 
 // The plan of a row without its LF: refusals 2 to 7.
 pub fn plan_row(row: &[u8], out: &mut [u8]) -> Plan
-    ensures { λ r. ⌜ r ≡ answer (rowOutcome (now (row .entry))) ⌝ }
+    ensures { λ r. ⌜ r ≡ answer text (rowOutcome (now (row .entry))) ⌝ }
     ensures { λ r. ⌜ r .length ≤ 4476 ⌝ }
-    ensures { λ _. ⌜ now (out .exit) ≡ sets (now (out .entry)) 0 (written (rowOutcome (now (row .entry)))) ⌝ }
+    ensures { λ _. ⌜ now (out .exit) ≡ sets (now (out .entry)) 0 (written text (rowOutcome (now (row .entry)))) ⌝ }
 {
     plan_read(read_row(row), out)
 }
 
 // The plan of a row under a line of names, both without their LF: refusals 1 to 7.
 pub fn plan_named_row(names: &[u8], row: &[u8], out: &mut [u8]) -> Plan
-    ensures { λ r. ⌜ r ≡ answer (namedOutcome (now (names .entry)) (now (row .entry))) ⌝ }
+    ensures { λ r. ⌜ r ≡ answer text (namedOutcome (now (names .entry)) (now (row .entry))) ⌝ }
     ensures { λ r. ⌜ r .length ≤ 4476 ⌝ }
-    ensures { λ _. ⌜ now (out .exit) ≡ sets (now (out .entry)) 0 (written (namedOutcome (now (names .entry)) (now (row .entry)))) ⌝ }
+    ensures { λ _. ⌜ now (out .exit) ≡ sets (now (out .entry)) 0 (written text (namedOutcome (now (names .entry)) (now (row .entry)))) ⌝ }
 {
     plan_read(read_named_row(names, row), out)
 }
 
 // The plan of a row that was read or refused.
 fn plan_read(row: Row, out: &mut [u8]) -> Plan
-    ensures { λ r. ⌜ r ≡ answer (readOutcome row) ⌝ }
+    ensures { λ r. ⌜ r ≡ answer text (readOutcome row) ⌝ }
     ensures { λ r. ⌜ r .length ≤ 4476 ⌝ }
-    ensures { λ _. ⌜ now (out .exit) ≡ sets (now (out .entry)) 0 (written (readOutcome row)) ⌝ }
+    ensures { λ _. ⌜ now (out .exit) ≡ sets (now (out .entry)) 0 (written text (readOutcome row)) ⌝ }
 {
     match row {
         Row::Read(settings) => plan_of(settings, out),

@@ -1,6 +1,6 @@
 -- The laws of specs/Laws. Assumes nothing.
 use mathlib.Core.Path.{_≡_, refl, ap, _∙_, subst}
-use mathlib.Core.Bool.{Bool, true, false, cond, true≢false, false≢true}
+use mathlib.Core.Bool.{Bool, true, false, cond, true≢false}
 use mathlib.Core.List.{List, [], _∷_}
 use Prim.Native.Nat.{ℕ, zero, suc}
 use native.Mathlib.Omega.{arith}
@@ -11,8 +11,6 @@ use Rattle.network.proofs.Lists.{All-append, All-join}
 use Rattle.links.specs.declared.Load.{Load}
 use Rattle.links.specs.Link.{reservationOf, figuresBy, figuresOf}
 use Rattle.links.proofs.LinkLaws.{slots-hold}
-use Rattle.refusals.specs.declared.Refusal.{Refusal}
-use Rattle.refusals.proofs.Unbroken.{unbroken-first, first-unbroken}
 use Rattle.settings.specs.declared.Settings.{Settings}
 use Rattle.settings.specs.Laws.{Checked}
 use Rattle.balanced.specs.declared.Kind.{Kind}
@@ -22,7 +20,9 @@ use Rattle.balanced.specs.Times.{timingOf}
 use Rattle.balanced.specs.Loads.{sensor, upward, downward, sinkAt, atSink}
 use Rattle.balanced.specs.Checks.{conditions}
 use Rattle.balanced.specs.Lines.{linkFor, endLink, upLink, downLink, line, endLines, upLines, downLines, lines, letter, sameKind}
-use Rattle.balanced.specs.Outcome.{Outcome, Planned, Refused, outcomeOf}
+use Rattle.refusals.proofs.Outcomes.{planned-unbroken, unbroken-planned}
+use Rattle.refusals.specs.Outcome.{Planned}
+use Rattle.balanced.specs.Outcome.{outcomeOf}
 use Rattle.balanced.specs.Bounds.{Bounded}
 use Rattle.balanced.specs.Promise.{Keeps}
 use Rattle.balanced.specs.Laws.{Plannable, PlannedExactly, NoSlotTooMany, EveryLoadBounded, EveryPlanKeeps, WindowsExist}
@@ -34,27 +34,11 @@ use Rattle.balanced.proofs.WindowsFit.{windows-fit}
 
 -- ---- planned exactly
 
--- a refusal is no plan
-pub no-plan : (p : List Line) (r : Refusal) → Refused r ≡ Planned p → ⊥
-no-plan p r e = false≢true (ap planned e)
-  where
-    planned : Outcome → Bool
-    planned (Planned q) = true
-    planned (Refused x) = false
-
--- and a plan is known by its lines
-pub same-lines : (p q : List Line) → Planned p ≡ Planned q → p ≡ q
-same-lines p q e = ap linesOf e
-  where
-    linesOf : Outcome → List Line
-    linesOf (Planned l) = l
-    linesOf (Refused x) = []
-
 pub planned-exactly : PlannedExactly
 unfolding outcomeOf
 planned-exactly s p = (
-  λ e. let u = first-unbroken Refused (Planned (lines s)) (Planned p) (no-plan p) (conditions s) e in (unbroken-plannable s (u .0), same-lines (lines s) p (u .1)),
-  λ h. unbroken-first Refused (Planned (lines s)) (conditions s) (plannable-unbroken s (h .0)) ∙ ap Planned (h .1),
+  λ e. let u = planned-unbroken (lines s) p (conditions s) e in (unbroken-plannable s (u .0), u .1),
+  λ h. unbroken-planned (lines s) (conditions s) (plannable-unbroken s (h .0)) ∙ ap Planned (h .1),
 )
 
 -- what holds of the lines of settings that can be planned holds of every plan

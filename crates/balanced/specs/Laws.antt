@@ -14,7 +14,8 @@ use Rattle.balanced.specs.Times.{timingOf, reservableAt}
 use Rattle.balanced.specs.Loads.{upward, downward, atSink}
 use Rattle.balanced.specs.Checks.{routers, superframes, usedOffPath, usedOnPath}
 use Rattle.balanced.specs.Lines.{line, sinkFigures, lines, sameKind}
-use Rattle.balanced.specs.Outcome.{Planned, outcomeOf}
+use Rattle.refusals.specs.Outcome.{Planned}
+use Rattle.balanced.specs.Outcome.{outcomeOf}
 use Rattle.balanced.specs.Bounds.{Sound, Bounded}
 use Rattle.balanced.specs.Tree.{Tree, Within, Windows}
 use Rattle.balanced.specs.Promise.{Keeps}

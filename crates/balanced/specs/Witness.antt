@@ -17,7 +17,8 @@ use Rattle.balanced.specs.declared.Line.{Line}
 use Rattle.balanced.specs.Times.{timingOf, reservableAt}
 use Rattle.balanced.specs.Checks.{routers, superframes, usedOffPath, usedOnPath}
 use Rattle.balanced.specs.Lines.{letter, lines}
-use Rattle.balanced.specs.Outcome.{Planned, Refused, outcomeOf}
+use Rattle.refusals.specs.Outcome.{Planned, Refused}
+use Rattle.balanced.specs.Outcome.{outcomeOf}
 use Rattle.balanced.specs.Tree.{Tree, Within, lineOf, networkOf, Windows, Readings}
 use Rattle.balanced.specs.Promise.{sinkLine, Held}
 

@@ -18,12 +18,12 @@ use Rattle.refusals.proofs.Answering.{verdict, broken-kept, answer-broken, answ
 use Rattle.settings.specs.Columns.{table}
 use Rattle.row.specs.Names.{isNameLine, nameLine}
 use Rattle.row.specs.Rows.{named}
-use Rattle.balanced.specs.Outcome.{Outcome, Planned, Refused}
+use Rattle.refusals.specs.Outcome.{Planned, Refused}
+use Rattle.balanced.specs.Outcome.{RowOutcome}
 use Rattle.planner.specs.declared.Plan.{Plan}
 use Rattle.planner.specs.Plans.{planned, refused, answer, written}
-use Rattle.planner.proofs.Answers.{answered-length}
-use Rattle.answers.proofs.Answering.{answer-refused}
-use Rattle.report.specs.Text.{refusalText}
+use Rattle.planner.proofs.Answered.{answered-length, answer-refused}
+use Rattle.report.specs.Text.{text, refusalText}
 use Rattle.reasons.specs.Reasons.{spoken}
 use Rattle.batch.specs.declared.Style.{Style}
 use Rattle.batch.specs.declared.Style.the-variants.{Plans, Reasons}
@@ -81,33 +81,33 @@ module _ (s : Style) (input : List ℕ) where
       ap₂ opened (answer-kept _ [] (inputConditions input) v) (answer-kept _ (behind (lineAt input 0)) (inputConditions input) v)
 
 -- the text of a row, by the plan that it was answered
-module _ (o : Outcome) (plan : Plan) (e : plan ≡ answer o) where
-  told : plan .verdict ≡ answer o .verdict
+module _ (o : RowOutcome) (plan : Plan) (e : plan ≡ answer text o) where
+  told : plan .verdict ≡ answer text o .verdict
   told = ap (λ (p : Plan). p .verdict) e
 
   -- refused: nothing was put, and the refusal is
   pub row-refused : (r : Refusal) → plan .verdict ≡ Broken r → refusalText r ≡ printed Plans o
   unfolding printed
-  row-refused r v = rw (answer-refused o r (sym told ∙ v)) refl
+  row-refused r v = rw (answer-refused text o r (sym told ∙ v)) refl
 
-  pub row-none : (r : Refusal) → plan .verdict ≡ Broken r → written o ≡ []
+  pub row-none : (r : Refusal) → plan .verdict ≡ Broken r → written text o ≡ []
   unfolding written
-  row-none r v = rw (answer-refused o r (sym told ∙ v)) refl
+  row-none r v = rw (answer-refused text o r (sym told ∙ v)) refl
 
   -- planned: the text was put
-  kept-printed : (x : Outcome) → answer x .verdict ≡ Kept → written x ≡ printed Plans x
+  kept-printed : (x : RowOutcome) → answer text x .verdict ≡ Kept → written text x ≡ printed Plans x
   unfolding answer planned refused written printed
   kept-printed (Planned p) v = refl
   kept-printed (Refused r) v = broken-kept r v
 
-  pub row-planned : plan .verdict ≡ Kept → written o ≡ printed Plans o
+  pub row-planned : plan .verdict ≡ Kept → written text o ≡ printed Plans o
   row-planned v = kept-printed o (sym told ∙ v)
 
-  pub row-length : plan .length ≡ length (written o)
-  row-length = ap (λ (p : Plan). p .length) e ∙ answered-length o
+  pub row-length : plan .length ≡ length (written text o)
+  row-length = ap (λ (p : Plan). p .length) e ∙ answered-length text o
 
 -- a row's line, by its verdict
-pub spoken-verdict : (o : Outcome) → ended (spoken (answer o .verdict) ∷ []) ≡ printed Reasons o
+pub spoken-verdict : (o : RowOutcome) → ended (spoken (answer text o .verdict) ∷ []) ≡ printed Reasons o
 unfolding printed answer planned refused
 spoken-verdict (Planned p) = refl
 spoken-verdict (Refused r) = refl

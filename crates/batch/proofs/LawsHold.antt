@@ -16,7 +16,7 @@ use Rattle.refusals.specs.declared.Verdict.{Verdict}
 use Rattle.refusals.specs.declared.Verdict.the-variants.{Kept, Broken}
 use Rattle.refusals.proofs.Answering.{verdict, answer-broken, answer-kept}
 use Rattle.refusals.specs.Conditions.{firstBroken}
-use Rattle.report.specs.Text.{refusalText}
+use Rattle.report.specs.Text.{text, refusalText}
 use Rattle.planner.specs.Plans.{answer}
 use Rattle.answers.specs.Outcomes.{rowOutcome}
 use Rattle.reasons.specs.Reasons.{spoken}
@@ -146,5 +146,5 @@ pub one-line-for-row : OneLineForRow
 unfolding rowsPrinted ended
 one-line-for-row [] = refl
 one-line-for-row (r ∷ rs) =
-    let t : List ℕ = spoken (answer (rowOutcome r) .verdict) in
+    let t : List ℕ = spoken (answer text (rowOutcome r) .verdict) in
     rw (sym (spoken-verdict (rowOutcome r)), one-line-for-row rs) (append-assoc t (10 ∷ []) _)

@@ -10,6 +10,7 @@ use Rattle.refusals.specs.Conditions.{firstBroken}
 use Rattle.row.specs.Rows.{named}
 use Rattle.planner.specs.Plans.{answer}
 use Rattle.answers.specs.Outcomes.{rowOutcome}
+use Rattle.report.specs.Text.{text}
 use Rattle.reasons.specs.Reasons.{spoken}
 use Rattle.batch.specs.declared.Style.{Style}
 use Rattle.batch.specs.declared.Style.the-variants.{Plans, Reasons}
@@ -31,7 +32,7 @@ OtherInputs =
 
 -- reasons are one line for each row, in the rows' order: that it is planned, or why it is refused
 abbrev pub OneLineForRow : Type 0
-OneLineForRow = (rows : List (List ℕ)) → rowsPrinted Reasons rows ≡ ended (map (λ (r : List ℕ). spoken (answer (rowOutcome r) .verdict)) rows)
+OneLineForRow = (rows : List (List ℕ)) → rowsPrinted Reasons rows ≡ ended (map (λ (r : List ℕ). spoken (answer text (rowOutcome r) .verdict)) rows)
 
 -- what is left: the bytes behind a position, and one step before the first row
 unfoldable pub toGo : List ℕ → Progress → ℕ

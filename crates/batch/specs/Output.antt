@@ -9,7 +9,8 @@ use Rattle.refusals.specs.declared.Refusal.the-variants.{InputTooLong}
 use Rattle.refusals.specs.declared.Verdict.the-variants.{Kept, Broken}
 use Rattle.refusals.specs.Conditions.{Condition, condition, firstBroken}
 use Rattle.row.specs.Rows.{named}
-use Rattle.balanced.specs.Outcome.{Outcome, Planned, Refused}
+use Rattle.refusals.specs.Outcome.{Planned, Refused}
+use Rattle.balanced.specs.Outcome.{RowOutcome}
 use Rattle.answers.specs.Outcomes.{rowOutcome}
 use Rattle.report.specs.Text.{text, refusalText}
 use Rattle.reasons.specs.Reasons.{spoken}
@@ -18,7 +19,7 @@ use Rattle.batch.specs.declared.Style.the-variants.{Plans, Reasons}
 
 -- what is printed for a row. Plans: its plan; "A refused row prints `R`, number and place instead". Reasons (document 02, E1): one line
 -- of English, that it is planned or why it is refused.
-unfoldable pub printed : Style → Outcome → List ℕ
+unfoldable pub printed : Style → RowOutcome → List ℕ
 printed Plans (Planned p) = text p
 printed Plans (Refused r) = refusalText r
 printed Reasons (Planned p) = ended (spoken Kept ∷ [])

@@ -1,5 +1,5 @@
 -- The laws of specs/Laws. Assumes nothing.
-use mathlib.Core.Path.{_∙_}
+use mathlib.Core.Path.{ap, _∙_}
 use mathlib.Core.Bool.{true, _&&_, and-eq-true-iff, true≢false}
 use mathlib.Core.List.{List, [], _∷_, _++_}
 use Prim.Native.Nat.{ℕ, _≤_}
@@ -8,12 +8,14 @@ use lib.Dec.{leb}
 use lib.ListN.{length}
 use borrow.Author.Tests.{leb-true, not-false}
 use Rattle.refusals.specs.Conditions.{Unbroken}
-use Rattle.refusals.proofs.Unbroken.{unbroken-left, unbroken-right, unbroken-first, first-unbroken}
+use Rattle.refusals.proofs.Unbroken.{unbroken-left, unbroken-right}
 use Rattle.tree.specs.Tree.{isNode, isRouter}
 use Rattle.tree.specs.Lines.{lines}
 use Rattle.tree.specs.Checks.{conditions}
-use Rattle.tree.specs.Outcome.{Planned, Refused, outcomeOf}
-use Rattle.tree.proofs.LawsHold.{no-plan, every-plan-keeps}
+use Rattle.refusals.specs.Outcome.{Planned}
+use Rattle.tree.specs.Outcome.{outcomeOf}
+use Rattle.refusals.proofs.Outcomes.{planned-unbroken, unbroken-planned}
+use Rattle.tree.proofs.LawsHold.{every-plan-keeps}
 use Rattle.nodes.specs.Survey.{nodeLines, treeFrom, treeIn, named, linesFrom, listed, sinkRight, surveyed, outcomeIn}
 use Rattle.nodes.specs.Laws.{UnbrokenIsSurveyed, PlannedText, EveryTextKeeps}
 use Rattle.nodes.proofs.Listed.{planted, ranged}
@@ -39,9 +41,9 @@ pub planned-text : PlannedText
 unfolding outcomeIn outcomeOf
 planned-text input b sink p e =
     let t = treeIn input in
-    let u = first-unbroken Refused (Planned (lines b t sink)) (Planned p) (no-plan p) (surveyed input sink ++ conditions b t sink) e in (
+    let u = planned-unbroken (lines b t sink) p (surveyed input sink ++ conditions b t sink) e in (
       unbroken-left (surveyed input sink) (conditions b t sink) (u .0),
-      unbroken-first Refused (Planned (lines b t sink)) (conditions b t sink) (unbroken-right (surveyed input sink) (conditions b t sink) (u .0)) ∙ u .1,
+      unbroken-planned (lines b t sink) (conditions b t sink) (unbroken-right (surveyed input sink) (conditions b t sink) (u .0)) ∙ ap Planned (u .1),
     )
 
 pub every-text-keeps : EveryTextKeeps

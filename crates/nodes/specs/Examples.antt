@@ -10,14 +10,15 @@ use Rattle.lines.specs.Text.{joined, ended}
 use Rattle.refusals.specs.Refusals.{numberOf, placeOf}
 use Rattle.settings.specs.declared.Settings.{Settings}
 use Rattle.tree.specs.Beside.{beside}
-use Rattle.tree.specs.Outcome.{Outcome, Planned, Refused}
+use Rattle.refusals.specs.Outcome.{Planned, Refused}
+use Rattle.tree.specs.Outcome.{TreeOutcome}
 use Rattle.tree.specs.Examples.{nodeColumns, common}
 use Rattle.nodes.specs.declared.Reading.the-variants.{Node, Unreadable}
 use Rattle.nodes.specs.Entries.{nameLine, entryIn}
 use Rattle.nodes.specs.Survey.{outcomeIn}
 
 -- number and place of a refusal; 0 and 0 where the tree is planned
-unfoldable pub answered : Outcome → List ℕ
+unfoldable pub answered : TreeOutcome → List ℕ
 answered (Planned p) = 0 ∷ 0 ∷ []
 answered (Refused r) = numberOf r ∷ placeOf r ∷ []
 
@@ -155,7 +156,7 @@ pub record Order : Type 0 where
 -- ---- plans
 
 -- the lines' columns where the tree is planned
-unfoldable pub columnsOf : Outcome → List (List ℕ)
+unfoldable pub columnsOf : TreeOutcome → List (List ℕ)
 columnsOf (Planned p) = map nodeColumns p
 columnsOf (Refused r) = []
 

@@ -7,7 +7,8 @@ use Rattle.refusals.specs.Conditions.{Unbroken}
 use Rattle.settings.specs.declared.Settings.{Settings}
 use Rattle.tree.specs.declared.NodeLine.{NodeLine}
 use Rattle.tree.specs.Tree.{isRouter}
-use Rattle.tree.specs.Outcome.{Planned, outcomeOf}
+use Rattle.refusals.specs.Outcome.{Planned}
+use Rattle.tree.specs.Outcome.{outcomeOf}
 use Rattle.tree.specs.Promise.{Keeps}
 use Rattle.tree.specs.Laws.{Surveyed}
 use Rattle.nodes.specs.Survey.{treeIn, surveyed, outcomeIn}

@@ -12,7 +12,8 @@ use Rattle.settings.specs.declared.Settings.{Settings}
 use Rattle.tree.specs.Tree.{Tree, treeOf, isNode, isRouter}
 use Rattle.tree.specs.Lines.{lines}
 use Rattle.tree.specs.Checks.{conditions}
-use Rattle.tree.specs.Outcome.{Outcome, Planned, Refused}
+use Rattle.refusals.specs.Outcome.{Planned, Refused}
+use Rattle.tree.specs.Outcome.{TreeOutcome}
 use Rattle.nodes.specs.declared.Reading.{Reading}
 use Rattle.nodes.specs.declared.Reading.the-variants.{Node, Unreadable}
 use Rattle.nodes.specs.Entries.{isNameLine, entryIn, lineRight}
@@ -68,5 +69,5 @@ surveyed input sink = named input ++ listed (nodeLines input) ++ sinkRight (tree
 
 -- ---- the outcome of a text: 10 "before all others", then numbers 3 to 7
 
-unfoldable pub outcomeIn : List ℕ → Settings → ℕ → Outcome
+unfoldable pub outcomeIn : List ℕ → Settings → ℕ → TreeOutcome
 outcomeIn input b sink = firstBroken Refused (Planned (lines b (treeIn input) sink)) (surveyed input sink ++ conditions b (treeIn input) sink)

@@ -19,5 +19,7 @@ pub mod Whole
 pub mod PlanLines
 -- the end nodes' line and line S
 pub mod Ends
+-- what is answered and put for an outcome, whatever the sort of plan
+pub mod Answered
 -- the answer as a whole, and demand 3 of it
 pub mod Answers

@@ -18,7 +18,8 @@ use Rattle.balanced.specs.Times.{timingOf}
 use Rattle.balanced.specs.Loads.{left, upward, downward}
 use Rattle.balanced.specs.Checks.{reservations, routersFit, usedFrom}
 use Rattle.balanced.specs.Lines.{lines}
-use Rattle.balanced.specs.Outcome.{Outcome, Planned, Refused}
+use Rattle.refusals.specs.Outcome.{Planned, Refused}
+use Rattle.balanced.specs.Outcome.{RowOutcome}
 
 -- ---- links
 
@@ -83,5 +84,5 @@ unfoldable pub checksBeforeSlots : Settings → List (Condition Refusal)
 checksBeforeSlots s = checks s ++ reservations s ++ routersFit s
 
 -- the outcome of settings that keep them
-unfoldable pub soundOutcome : Settings → Outcome
+unfoldable pub soundOutcome : Settings → RowOutcome
 soundOutcome s = firstBroken Refused (Planned (lines s)) (usedFrom s (suc (s .h)) 0)

@@ -12,6 +12,7 @@ ghost use Rattle.refusals.specs.Conditions.{firstBroken};
 ghost use Rattle.balanced.specs.Lines.{lines};
 ghost use Rattle.balanced.specs.Outcome.{outcomeOf};
 ghost use Rattle.balanced.specs.Promise.{Keeps};
+ghost use Rattle.report.specs.Text.{text};
 ghost use Rattle.planner.specs.Plans.{answer, refused, written};
 ghost use Rattle.planner.specs.Inner.{checksBeforeSlots};
 use refusals::Refusal;
@@ -35,9 +36,9 @@ pub struct Plan {
 // Plans any settings, and puts the plan's text at the front of lent memory, as far as there is room. Refused settings leave every byte
 // as it was. Where they are planned, demand 3 holds of the lines.
 pub fn plan_of(s: Settings, out: &mut [u8]) -> Plan
-    ensures { λ r. ⌜ r ≡ answer (outcomeOf s) ⌝ }
+    ensures { λ r. ⌜ r ≡ answer text (outcomeOf s) ⌝ }
     ensures { λ r. ⌜ r .length ≤ 4476 ⌝ }
-    ensures { λ _. ⌜ now (out .exit) ≡ sets (now (out .entry)) 0 (written (outcomeOf s)) ⌝ }
+    ensures { λ _. ⌜ now (out .exit) ≡ sets (now (out .entry)) 0 (written text (outcomeOf s)) ⌝ }
     ensures { λ r. ⌜ (r .verdict ≡ Kept → Keeps s (lines s)) ⌝ }
 {
     let verdict = check_before_slots(s);

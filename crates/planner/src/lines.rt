@@ -34,9 +34,9 @@ use settings::Settings;
 // The plan of settings that keep numbers 3 to 6 (`plan_of` has checked them): refused with number 7, or planned.
 pub(crate) fn plan_sound(s: Settings, out: &mut [u8]) -> Plan
     requires { ⌜ Sound s ⌝ }
-    ensures { λ r. ⌜ r ≡ answer (soundOutcome s) ⌝ }
+    ensures { λ r. ⌜ r ≡ answer text (soundOutcome s) ⌝ }
     ensures { λ r. ⌜ r .length ≤ 4476 ⌝ }
-    ensures { λ _. ⌜ now (out .exit) ≡ sets (now (out .entry)) 0 (written (soundOutcome s)) ⌝ }
+    ensures { λ _. ⌜ now (out .exit) ≡ sets (now (out .entry)) 0 (written text (soundOutcome s)) ⌝ }
 {
     let t = timing_of(s);
     let made = sensor_load(s, t);
@@ -65,9 +65,9 @@ fn plan_links(
     requires { ⌜ HeldFrom (linkUp s) 0 (s .h) (now up) ⌝ }
     requires { ⌜ HeldBelow (linkDown s) (s .sink) (now down) ⌝ }
     requires { ⌜ passing ≡ coming s (s .sink) ⌝ }
-    ensures { λ r. ⌜ r ≡ answer (soundOutcome s) ⌝ }
+    ensures { λ r. ⌜ r ≡ answer text (soundOutcome s) ⌝ }
     ensures { λ r. ⌜ r .length ≤ 4476 ⌝ }
-    ensures { λ _. ⌜ now (out .exit) ≡ sets (now (out .entry)) 0 (written (soundOutcome s)) ⌝ }
+    ensures { λ _. ⌜ now (out .exit) ≡ sets (now (out .entry)) 0 (written text (soundOutcome s)) ⌝ }
 {
     let verdict = slots_fit(s, end.reservation.slots, up, down);
     if let Verdict::Broken(refusal) = verdict {

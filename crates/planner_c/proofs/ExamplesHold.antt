@@ -10,12 +10,13 @@ use Rattle.planner.specs.Plans as planner
 use Rattle.reasons.specs.declared.Reading.the-variants.{Reason}
 use Rattle.reasons.specs.Reading.{readReason}
 use Rattle.reasons.proofs.Computing.{worded, taken-in}
-use Rattle.planner_c.specs.Entries.{told, filled, room, entryOutcome, planRow, checkRow}
+use Rattle.planner_c.specs.Calls.{toldRefusal, told, filled, room, roomed, leaves}
+use Rattle.planner_c.specs.Entries.{planRow, checkRow}
 use Rattle.planner_c.specs.Reasons.{lineLeft, rowLine, explainRow, plain, lineAmong, explainRefusal, numbered}
 use Rattle.planner_c.specs.Examples.{lent, text, call, planned, refused, Examples, line, explained, Spoken, OtherPlaceBreaks}
 
 pub examples-hold : Examples
-unfolding answered worded ended report.header report.numbers report.lineText report.text told filled room entryOutcome planRow checkRow lent text call planned refused
+unfolding answered worded ended report.header report.numbers report.lineText report.text toldRefusal told filled room roomed leaves planRow checkRow lent text call planned refused
 examples-hold = record {
   check = refl;
   exact = refl;
@@ -30,7 +31,7 @@ examples-hold = record {
 }
 
 pub spoken-hold : Spoken
-unfolding answered taken-in told planner.planned planner.refused planner.answer lineLeft rowLine explainRow plain lineAmong explainRefusal numbered lent line explained
+unfolding answered taken-in toldRefusal told planner.planned planner.refused planner.answer lineLeft rowLine explainRow plain lineAmong explainRefusal numbered lent line explained
 spoken-hold = record {
   exact = refl;
   more = refl;

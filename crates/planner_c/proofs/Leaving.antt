@@ -6,76 +6,76 @@ use native.Mathlib.Omega.{arith}
 use lib.ListN.{length, take, drop}
 use lib.Seq.{sets, take-length}
 use Rattle.buffer.proofs.Putting.{sets-front, put-front}
+use Rattle.refusals.specs.declared.Refusal.{Refusal}
 use Rattle.refusals.specs.declared.Refusal.the-variants.{LentTooShort}
-use Rattle.balanced.specs.Outcome.{Outcome, Planned, Refused}
+use Rattle.refusals.specs.Conditions.{Condition, firstBroken}
+use Rattle.refusals.specs.Outcome.{Outcome, Planned, Refused}
 use Rattle.planner.specs.declared.Plan.{Plan}
 use Rattle.planner.specs.Plans.{planned, refused, answer, written}
-use Rattle.planner.proofs.Answers.{answered-length}
-use Rattle.answers.specs.Outcomes.{namedOutcome}
+use Rattle.planner.proofs.Answered.{answered-length}
 use Rattle.planner_c.specs.declared.Answer.{Answer}
-use Rattle.planner_c.specs.Entries.{told, filled, left, planRow, checkRow}
+use Rattle.planner_c.specs.Calls.{toldRefusal, told, filled, left, leaves}
 use Rattle.planner_c.specs.Inner.{answerBy, answerOf}
-use Rattle.planner_c.proofs.Rooms.{entry-refused, entry-planned, entry-short}
+use Rattle.planner_c.proofs.Rooms.{roomed-refused, roomed-planned, roomed-short}
 
--- the answer to an outcome's plan is what is told of it
-told-of : (o : Outcome) → answerOf (answer o) ≡ told o
-unfolding answerOf answerBy answer planned refused told
-told-of (Planned p) = refl
-told-of (Refused r) = refl
+module _ {P : Type 0} (text : P → List ℕ) where
+  -- the answer to an outcome's plan is what is told of it
+  told-of : (o : Outcome P) → answerOf (answer text o) ≡ told text o
+  unfolding answerOf answerBy answer planned refused toldRefusal told
+  told-of (Planned p) = refl
+  told-of (Refused r) = refl
 
--- and as long as what is put
-told-length : (o : Outcome) → told o .length ≡ length (written o)
-unfolding told written
-told-length (Planned p) = refl
-told-length (Refused r) = refl
+  -- and as long as what is put
+  told-length : (o : Outcome P) → told text o .length ≡ length (written text o)
+  unfolding toldRefusal told written
+  told-length (Planned p) = refl
+  told-length (Refused r) = refl
 
-module _ (names row : List ℕ) (plan : Plan) (e : plan ≡ answer (namedOutcome names row)) where
-  -- what the plan answers
-  pub plan-told : (a : Answer) → a ≡ answerOf plan → a ≡ told (namedOutcome names row)
-  plan-told a q = q ∙ ap answerOf e ∙ told-of (namedOutcome names row)
+  module _ (o : Outcome P) (plan : Plan) (e : plan ≡ answer text o) where
+    -- what the plan answers
+    pub plan-told : (a : Answer) → a ≡ answerOf plan → a ≡ told text o
+    plan-told a q = q ∙ ap answerOf e ∙ told-of o
 
-  plan-length : plan .length ≡ length (written (namedOutcome names row))
-  plan-length = ap (λ (p : Plan). p .length) e ∙ answered-length (namedOutcome names row)
+    plan-length : plan .length ≡ length (written text o)
+    plan-length = ap (λ (p : Plan). p .length) e ∙ answered-length text o
 
-  -- the entry that writes nothing
-  pub check-left : (a : Answer) → a ≡ answerOf plan → a ≡ checkRow names row
-  unfolding checkRow
-  check-left a q = plan-told a q
+    pub told-short : (most : ℕ) (a : Answer) → a ≡ answerOf plan → plan .length ≤ most → a .length ≤ most
+    told-short most a q h = omega (arith, ap (λ (x : Answer). x .length) (plan-told a q), told-length o, plan-length)
 
-  pub check-short : (a : Answer) → a ≡ answerOf plan → plan .length ≤ 4476 → a .length ≤ 4476
-  check-short a q h = omega (arith, ap (λ (x : Answer). x .length) (plan-told a q), told-length (namedOutcome names row), plan-length)
+  -- a call that writes
+  module _ (own : P) (cs : List (Condition Refusal)) (plan : Plan) (e : plan ≡ answer text (firstBroken Refused (Planned own) cs)) (before : List ℕ) where
+    abbrev all : Outcome P
+    all = firstBroken Refused (Planned own) cs
 
-  -- the entry that writes
-  module _ (before : List ℕ) where
     -- what is put stands in front of what was there
-    left-is : (o : Outcome) → namedOutcome names row ≡ o → length (written o) ≤ length before → (a : Answer) (after : List ℕ) → a ≡ told o
-        → after ≡ written o ++ drop (length (written o)) before → left a after ≡ planRow names row before
-    unfolding planRow filled written
-    left-is (Planned p) q h a after ea ew = rw (entry-planned names row p q before h, ea, ew) refl
-    left-is (Refused r) q h a after ea ew = rw (entry-refused names row before r q, ea, ew) refl
+    left-is : (o : Outcome P) → all ≡ o → length (written text o) ≤ length before → (a : Answer) (after : List ℕ) → a ≡ told text o
+        → after ≡ written text o ++ drop (length (written text o)) before → left a after ≡ leaves text own cs before
+    unfolding leaves filled written
+    left-is (Planned p) q h a after ea ew = rw (roomed-planned text own cs p q before h, ea, ew) refl
+    left-is (Refused r) q h a after ea ew = rw (roomed-refused text own cs before r q, ea, ew) refl
 
-    -- a buffer that no text is too long for
-    pub plan-left : (a : Answer) (after : List ℕ) → 4476 ≤ length before → plan .length ≤ 4476 → a ≡ answerOf plan
-        → after ≡ sets before 0 (written (namedOutcome names row)) → left a after ≡ planRow names row before
-    plan-left a after room h q w =
-        let fits : length (written (namedOutcome names row)) ≤ length before = omega (arith, plan-length) in
-        left-is (namedOutcome names row) refl fits a after (plan-told a q) (w ∙ sets-front before (written (namedOutcome names row)) fits)
+    -- a buffer that is long enough
+    pub plan-left : (a : Answer) (after : List ℕ) → plan .length ≤ length before → a ≡ answerOf plan → after ≡ sets before 0 (written text all)
+        → left a after ≡ leaves text own cs before
+    plan-left a after h q w =
+        let fits : length (written text all) ≤ length before = omega (arith, plan-length all plan e) in
+        left-is all refl fits a after (plan-told all plan e a q) (w ∙ sets-front before (written text all) fits)
 
     -- one that is too short
-    short-is : (o : Outcome) → namedOutcome names row ≡ o → length before < length (written o) → (a : Answer) → a ≡ told (Refused LentTooShort)
-        → left a before ≡ planRow names row before
-    unfolding planRow filled written
-    short-is (Planned p) q h a ea = rw (entry-short names row p q before h, ea) refl
+    short-is : (o : Outcome P) → all ≡ o → length before < length (written text o) → (a : Answer) → a ≡ toldRefusal LentTooShort
+        → left a before ≡ leaves text own cs before
+    unfolding leaves told filled written
+    short-is (Planned p) q h a ea = rw (roomed-short text own cs p q before h, ea) refl
     short-is (Refused r) q h a ea = absurd (omega arith)
 
-    pub plan-short : (a : Answer) → length before < plan .length → a ≡ told (Refused LentTooShort) → left a before ≡ planRow names row before
-    plan-short a h q = short-is (namedOutcome names row) refl (omega (arith, plan-length)) a q
+    pub plan-short : (a : Answer) → length before < plan .length → a ≡ toldRefusal LentTooShort → left a before ≡ leaves text own cs before
+    plan-short a h q = short-is all refl (omega (arith, plan-length all plan e)) a q
 
     -- and one that is not, with the text made apart
-    pub plan-copied : (a : Answer) (after space e front : List ℕ) → plan .length ≤ length before → plan .length ≤ length e → a ≡ answerOf plan
-        → space ≡ sets e 0 (written (namedOutcome names row)) → front ≡ take (plan .length) space
-        → after ≡ take (length front) front ++ drop (length front) before → left a after ≡ planRow names row before
-    plan-copied a after space e front h room q put part copied =
-        let t : List ℕ = written (namedOutcome names row) in
-        let f : front ≡ t = part ∙ put-front space e t (plan .length) plan-length room put in
-        left-is (namedOutcome names row) refl (omega (arith, plan-length)) a after (plan-told a q) (copied ∙ rw (take-length front, f) refl)
+    pub plan-copied : (a : Answer) (after space c front : List ℕ) → plan .length ≤ length before → plan .length ≤ length c → a ≡ answerOf plan
+        → space ≡ sets c 0 (written text all) → front ≡ take (plan .length) space
+        → after ≡ take (length front) front ++ drop (length front) before → left a after ≡ leaves text own cs before
+    plan-copied a after space c front h room q put part copied =
+        let t : List ℕ = written text all in
+        let f : front ≡ t = part ∙ put-front space c t (plan .length) (plan-length all plan e) room put in
+        left-is all refl (omega (arith, plan-length all plan e)) a after (plan-told all plan e a q) (copied ∙ rw (take-length front, f) refl)

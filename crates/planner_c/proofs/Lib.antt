@@ -5,8 +5,6 @@ pub mod Rooms
 pub mod Leaving
 -- what the entries that speak English leave
 pub mod ReasonLines
--- surveyed trees: outcomes with a lent buffer, and what a call leaves
-pub mod TreeRooms
 -- the laws of specs/Laws
 pub mod LawsHold
 -- a text that breaks the promise

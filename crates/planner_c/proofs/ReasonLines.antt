@@ -10,20 +10,23 @@ use lib.Seq.{take-at, take-length}
 use borrow.Author.Tests.{lt-ltb, le-ltb, ne-eqb}
 use Rattle.refusals.specs.declared.Refusal.the-variants.{Names, LentTooShort, InputTooLong}
 use Rattle.refusals.specs.Refusals.{numberOf, placeOf}
-use Rattle.balanced.specs.Outcome.{Outcome, Planned, Refused}
+use Rattle.refusals.specs.Outcome.{Outcome, Planned, Refused}
+use Rattle.refusals.specs.declared.Refusal.{Refusal}
+use Rattle.refusals.specs.declared.Verdict.{Verdict}
+use Rattle.refusals.specs.declared.Verdict.the-variants.{Broken}
 use Rattle.planner.specs.Plans.{planned, refused, answer}
 use Rattle.reasons.specs.declared.Reading.the-variants.{Reason}
-use Rattle.reasons.specs.Reasons.{reason, spoken}
+use Rattle.reasons.specs.Reasons.{reason}
 use Rattle.reasons.specs.Reading.{readReason}
 use Rattle.reasons.proofs.LawsHold.{read-back}
 use Rattle.planner_c.specs.declared.Answer.{Answer}
-use Rattle.planner_c.specs.Entries.{told, Left, left}
+use Rattle.planner_c.specs.Calls.{toldRefusal, told, Left, left}
 use Rattle.planner_c.specs.Reasons.{lineLeft, plain, lineAmong, ReadAgain}
 
 -- ---- a line that is put, and one that has no room
 
 module _ (number place : ℕ) (line before : List ℕ) where
-  pub line-short : length before < length line → (a : Answer) → a ≡ told (Refused LentTooShort) → left a before ≡ lineLeft number place line before
+  pub line-short : length before < length line → (a : Answer) → a ≡ toldRefusal LentTooShort → left a before ≡ lineLeft number place line before
   unfolding lineLeft
   line-short h a e = rw (lt-ltb (length before) (length line) h, e) refl
 
@@ -57,28 +60,31 @@ line-of-others number place f g h = rw (ne-eqb number 1 f, ne-eqb number 8 g, ne
 
 -- ---- number and place can be had again
 
--- from the line of an outcome that is answered so
-outcome-again : (o : Outcome) (number place : ℕ) → number ≡ told o .number → place ≡ told o .place → place < 2 ^ 32 → 1 ≤ number
-    → readReason (spoken (answer o .verdict)) ≡ Reason number place
-unfolding told answer planned refused spoken
-outcome-again (Planned p) number place n q h l = absurd (omega arith)
-outcome-again (Refused r) number place n q h l = rw (n, q) (read-back r (omega arith))
+-- `text` is a plan's text, and `say` the line of a verdict, of a broken one the refusal's
+module _ {P : Type 0} (text : P → List ℕ) (say : Verdict → List ℕ) (broken : (r : Refusal) → say (Broken r) ≡ reason r) where
+  -- from the line of an outcome that is answered so
+  outcome-again : (o : Outcome P) (number place : ℕ) → number ≡ told text o .number → place ≡ told text o .place → place < 2 ^ 32 → 1 ≤ number
+      → readReason (say (answer text o .verdict)) ≡ Reason number place
+  unfolding toldRefusal told answer planned refused
+  outcome-again (Planned p) number place n q h l = absurd (omega arith)
+  outcome-again (Refused r) number place n q h l = rw (n, q, broken r) (read-back r (omega arith))
 
-pub line-again : (o : Outcome) (before : List ℕ) (a : Answer) (after : List ℕ)
-    → left a after ≡ lineLeft (told o .number) (told o .place) (spoken (answer o .verdict)) before → a .place < 2 ^ 32 → ReadAgain a after
-unfolding lineLeft told numberOf
-line-again o before a after e h low high = by (ltb (length before) (length (spoken (answer o .verdict)))) e where
-  line : List ℕ
-  line = spoken (answer o .verdict)
+  pub line-again : (o : Outcome P) (before : List ℕ) (a : Answer) (after : List ℕ)
+      → left a after ≡ lineLeft (told text o .number) (told text o .place) (say (answer text o .verdict)) before → a .place < 2 ^ 32 → ReadAgain a after
+  unfolding lineLeft toldRefusal numberOf
+  line-again o before a after e h low high = by (ltb (length before) (length line)) e
+    where
+      line : List ℕ
+      line = say (answer text o .verdict)
 
-  by : (b : Bool)
-      → left a after
-      ≡ cond b (left (told (Refused LentTooShort)) before) (left (record { number = told o .number; place = told o .place; length = length line }) (line ++ drop (length line) before))
-      → readReason (take (a .length) after) ≡ Reason (a .number) (a .place)
-  by true q = absurd (high (ap (λ (l : Left). l .answer .number) q))
-  by false q =
-      let n = ap (λ (l : Left). l .answer .number) q in
-      let p = ap (λ (l : Left). l .answer .place) q in
-      let k = ap (λ (l : Left). l .answer .length) q in
-      let t = ap (λ (l : Left). l .buffer) q in
-      rw (t, take-at line (drop (length line) before) (a .length) (sym k)) (outcome-again o (a .number) (a .place) n p h low)
+      by : (b : Bool)
+          → left a after
+          ≡ cond b (left (toldRefusal LentTooShort) before) (left (record { number = told text o .number; place = told text o .place; length = length line }) (line ++ drop (length line) before))
+          → readReason (take (a .length) after) ≡ Reason (a .number) (a .place)
+      by true q = absurd (high (ap (λ (l : Left). l .answer .number) q))
+      by false q =
+          let n = ap (λ (l : Left). l .answer .number) q in
+          let p = ap (λ (l : Left). l .answer .place) q in
+          let k = ap (λ (l : Left). l .answer .length) q in
+          let t = ap (λ (l : Left). l .buffer) q in
+          rw (t, take-at line (drop (length line) before) (a .length) (sym k)) (outcome-again o (a .number) (a .place) n p h low)

@@ -8,7 +8,7 @@ use lib.ListN.{length, take}
 use Rattle.decimal.specs.Ascii.{ascii}
 use Rattle.decimal.specs.Decimal.{digitsBy, decimal}
 use Rattle.lines.specs.Text.{joined, ended}
-use Rattle.network.specs.Counting.{All, none, each}
+use Rattle.network.specs.Counting.{All, each}
 use Rattle.network.specs.Model.{Network, Frame, queue}
 use Rattle.network.specs.Oracle.{run}
 use Rattle.network.specs.Examples.{first}

@@ -7,7 +7,8 @@ use Prim.Native.String.{String}
 use Rattle.decimal.specs.Ascii.{ascii}
 use Rattle.planner_c.specs.declared.Answer.{Answer}
 use Rattle.reasons.specs.Reading.{readReason}
-use Rattle.planner_c.specs.Entries.{Left, left, planRow, checkRow}
+use Rattle.planner_c.specs.Calls.{Left, left}
+use Rattle.planner_c.specs.Entries.{planRow, checkRow}
 use Rattle.planner_c.specs.Reasons.{explainRow, explainRefusal, numbered, ReadAgain}
 
 abbrev pub answer : ℕ → ℕ → ℕ → Answer

@@ -1,32 +1,42 @@
--- What holds of the entries' definitions, for those who call them. Assumes nothing: these are statements; proofs/LawsHold proves them.
+-- What holds of what calls leave, for those who call them: `planRow` and `planTree` are `leaves` of a row's and of a tree's plan and conditions.
+-- Assumes nothing: these are statements; proofs/LawsHold proves them.
 use Prim.Native.Nat.{ℕ, _≤_}
 use mathlib.Core.Path.{_≡_}
 use mathlib.Core.List.{List}
 use lib.ListN.{length}
-use Rattle.balanced.specs.Lines.{lines}
-use Rattle.answers.specs.Outcomes.{spelledSettings}
-use Rattle.planner_c.specs.Entries.{planRow, checkRow}
-use Rattle.planner_c.specs.Promise.{IsPlanned, StandsIn, Promised}
+use Rattle.refusals.specs.declared.Refusal.{Refusal}
+use Rattle.refusals.specs.Conditions.{Condition, firstBroken}
+use Rattle.refusals.specs.Outcome.{Planned, Refused}
+use Rattle.settings.specs.declared.Settings.{Settings}
+use Rattle.planner_c.specs.Calls.{told, leaves, IsPlanned, StandsIn}
+use Rattle.planner_c.specs.Entries.{planRow}
+use Rattle.planner_c.specs.Trees.{planTree}
+use Rattle.planner_c.specs.Promise.{Promised, PromisedTree}
 
 -- a buffer keeps its length
-abbrev pub LengthStays : Type 0
-LengthStays = (names row before : List ℕ) → length (planRow names row before .buffer) ≡ length before
+abbrev pub LengthStays : Type 1
+LengthStays = (P : Type 0) (text : P → List ℕ) (p : P) (cs : List (Condition Refusal)) (before : List ℕ) → length (leaves text p cs before .buffer) ≡ length before
 
 -- a refusal leaves every byte as it was
-abbrev pub RefusalLeaves : Type 0
-RefusalLeaves = (names row before : List ℕ) → ¬ IsPlanned (planRow names row before .answer) → planRow names row before .buffer ≡ before
+abbrev pub RefusalLeaves : Type 1
+RefusalLeaves = (P : Type 0) (text : P → List ℕ) (p : P) (cs : List (Condition Refusal)) (before : List ℕ) → ¬ IsPlanned (leaves text p cs before .answer)
+    → leaves text p cs before .buffer ≡ before
 
--- a buffer as long as the other entry says is long enough: the answers are the same
-abbrev pub AskedFirst : Type 0
-AskedFirst =
-    (names row before : List ℕ) → checkRow names row .length ≤ length before → planRow names row before .answer ≡ checkRow names row
+-- a buffer as long as the entry that writes nothing says is long enough: the answers are the same
+abbrev pub AskedFirst : Type 1
+AskedFirst = (P : Type 0) (text : P → List ℕ) (p : P) (cs : List (Condition Refusal)) (before : List ℕ)
+    → told text (firstBroken Refused (Planned p) cs) .length ≤ length before
+    → leaves text p cs before .answer ≡ told text (firstBroken Refused (Planned p) cs)
 
--- where a row is planned, its own lines stand in the buffer: the promise is about something
-abbrev pub LinesStand : Type 0
-LinesStand =
-    (names row before : List ℕ) → IsPlanned (planRow names row before .answer)
-    → StandsIn (lines (spelledSettings row)) (planRow names row before .answer) (planRow names row before .buffer)
+-- where it is planned, the plan's own text stands in the buffer: the promise is about something
+abbrev pub TextStands : Type 1
+TextStands = (P : Type 0) (text : P → List ℕ) (p : P) (cs : List (Condition Refusal)) (before : List ℕ) → IsPlanned (leaves text p cs before .answer)
+    → StandsIn text p (leaves text p cs before .answer) (leaves text p cs before .buffer)
 
--- demand 3: the promise holds of what every call leaves
+-- demand 3: the promises hold of what every call leaves
 abbrev pub EntryPromises : Type 0
 EntryPromises = (names row before : List ℕ) → Promised row (planRow names row before .answer) (planRow names row before .buffer)
+
+abbrev pub TreeEntryPromises : Type 0
+TreeEntryPromises = (nodes : List ℕ) (b : Settings) (sink : ℕ) (before : List ℕ)
+    → PromisedTree nodes b sink (planTree nodes b sink before .answer) (planTree nodes b sink before .buffer)

@@ -1,5 +1,7 @@
 -- What a reader must believe of the entries for C, in reading order. Assumes nothing.
--- from bytes to bytes: the answer and the lent buffer, numbers 1 to 8
+-- what a call that plans answers and leaves: the answer and the lent buffer, number 8
+pub mod Calls
+-- a row, from bytes to bytes: numbers 1 to 8
 pub mod Entries
 -- the same for the entries that speak English
 pub mod Reasons
@@ -7,8 +9,6 @@ pub mod Reasons
 pub mod Trees
 -- demand 3 of the text in the buffer
 pub mod Promise
--- the same of a surveyed tree's
-pub mod TreePromise
 -- a text that breaks the promise: it is about something
 pub mod Broken
 -- and texts that break a surveyed tree's

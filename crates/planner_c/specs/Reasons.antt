@@ -8,8 +8,8 @@ use lib.ListN.{length, take, drop}
 use Rattle.refusals.specs.declared.Refusal.{Refusal}
 use Rattle.refusals.specs.declared.Refusal.the-variants.{Names, LentTooShort, InputTooLong}
 use Rattle.refusals.specs.Refusals.{numberOf, placeOf}
-use Rattle.balanced.specs.Outcome.{Refused}
-use Rattle.planner.specs.Plans as planner
+use Rattle.planner.specs.Plans.{answer}
+use Rattle.report.specs.Text.{text}
 use Rattle.answers.specs.Outcomes.{namedOutcome}
 use Rattle.reasons.specs.declared.Reading.{Reading}
 use Rattle.reasons.specs.declared.Reading.the-variants.{Reason, NoReason}
@@ -17,23 +17,23 @@ use Rattle.reasons.specs.Reasons.{reason, spoken}
 use Rattle.reasons.specs.Reading.{readReason}
 use Rattle.planner_c.specs.declared.Answer.{Answer}
 use Rattle.planner_c.specs.declared.Numbered.{Numbered}
-use Rattle.planner_c.specs.Entries.{told, Left, left}
+use Rattle.planner_c.specs.Calls.{toldRefusal, told, Left, left}
 
 -- what a call leaves that puts a line, and answers this number and place: the line at the front of the buffer and its length, or number 8
 -- and every byte as it was, where the buffer is shorter than the line
 unfoldable pub lineLeft : ℕ → ℕ → List ℕ → List ℕ → Left
 lineLeft number place line before =
     cond (ltb (length before) (length line))
-    (left (told (Refused LentTooShort)) before)
+    (left (toldRefusal LentTooShort) before)
     (left (record { number = number; place = place; length = length line }) (line ++ drop (length line) before))
 
 -- the line of a row under a name line: why it is refused with one of numbers 1 to 7, or that it is planned
 unfoldable pub rowLine : List ℕ → List ℕ → List ℕ
-rowLine names row = spoken (planner.answer (namedOutcome names row) .verdict)
+rowLine names row = spoken (answer text (namedOutcome names row) .verdict)
 
 -- the entry that puts the line of a row: it answers number and place of the refusal, 0 and 0 where the row is planned
 unfoldable pub explainRow : List ℕ → List ℕ → List ℕ → Left
-explainRow names row before = lineLeft (told (namedOutcome names row) .number) (told (namedOutcome names row) .place) (rowLine names row) before
+explainRow names row before = lineLeft (told text (namedOutcome names row) .number) (told text (namedOutcome names row) .place) (rowLine names row) before
 
 -- refusals that their number and place alone determine
 unfoldable pub plain : List Refusal

@@ -5,7 +5,7 @@ use mathlib.Core.List.{List}
 use lib.ListN.{length}
 use Rattle.decimal.specs.Ascii.{ascii}
 use Rattle.tree.specs.Beside.{beside}
-use Rattle.planner_c.specs.TreePromise.{Promised}
+use Rattle.planner_c.specs.Promise.{PromisedTree}
 
 -- ---- a list in whose run a queue is filled to BUFFER, 3 (`Filled` of tree's specs/Witness)
 
@@ -30,6 +30,6 @@ lowRoutes = ascii "KIND DEPTH RATE BURST SLOTS FRAMES LATENCY BUFFER DELAY ROUTE
 
 -- each of these texts, as long as the answer says, breaks the promise
 pub record LoweredBreak : Type 0 where
-  pub buffer : ¬ Promised pairList (beside 0 0 17 1 0) 1 (record { number = 0; place = 0; length = 115 }) lowBuffer
-  pub route : ¬ Promised hopList (beside 1 0 17 1 0) 1 (record { number = 0; place = 0; length = 153 }) lowRoute
-  pub routes : ¬ Promised hopList (beside 1 0 17 1 0) 1 (record { number = 0; place = 0; length = 153 }) lowRoutes
+  pub buffer : ¬ PromisedTree pairList (beside 0 0 17 1 0) 1 (record { number = 0; place = 0; length = 115 }) lowBuffer
+  pub route : ¬ PromisedTree hopList (beside 1 0 17 1 0) 1 (record { number = 0; place = 0; length = 153 }) lowRoute
+  pub routes : ¬ PromisedTree hopList (beside 1 0 17 1 0) 1 (record { number = 0; place = 0; length = 153 }) lowRoutes

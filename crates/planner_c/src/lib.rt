@@ -5,8 +5,8 @@
 // that are valid for their lengths, a lent buffer apart from the inputs) is in the header.
 ghost use mathlib.Core.Path.{_≡_};
 ghost use Prim.Native.Nat.{_≤_};
-ghost use Rattle.balanced.specs.Outcome.{Refused};
-ghost use Rattle.planner_c.specs.Entries.{told, planRow, checkRow, left};
+ghost use Rattle.planner_c.specs.Calls.{toldRefusal, left};
+ghost use Rattle.planner_c.specs.Entries.{planRow, checkRow};
 ghost use Rattle.planner_c.specs.Promise.{Promised};
 ghost use Rattle.planner_c.specs.Inner.{answerOf};
 use answers::plan_named_row;
@@ -87,7 +87,7 @@ fn answer_of(plan: Plan) -> Answer
 
 // The answer to a refused row.
 fn refused(refusal: Refusal) -> Answer
-    ensures { λ r. ⌜ r ≡ told (Refused refusal) ⌝ }
+    ensures { λ r. ⌜ r ≡ toldRefusal refusal ⌝ }
 {
     Answer {
         number: refusal.number(),

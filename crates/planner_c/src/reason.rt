@@ -4,7 +4,7 @@ ghost use Prim.Native.Nat.{_≤_};
 ghost use lib.ListN.{length};
 ghost use lib.Seq.{sets};
 ghost use Rattle.reasons.specs.Reading.{readReason};
-ghost use Rattle.planner_c.specs.Entries.{left};
+ghost use Rattle.planner_c.specs.Calls.{left};
 ghost use Rattle.planner_c.specs.Reasons.{lineLeft, explainRow, plain, lineAmong, explainRefusal, numbered, ReadAgain};
 use crate::Answer;
 use crate::Numbered;

@@ -4,10 +4,10 @@ ghost use Prim.Native.Nat.{_≤_};
 ghost use lib.ListN.{length};
 ghost use lib.Seq.{sets};
 ghost use Rattle.tree.specs.Beside as definition;
-ghost use Rattle.planner_c.specs.Entries.{left};
+ghost use Rattle.planner_c.specs.Calls.{left};
 ghost use Rattle.planner_c.specs.Reasons.{ReadAgain};
 ghost use Rattle.planner_c.specs.Trees.{planTree, checkTree, treeSpoken, explainTree};
-ghost use Rattle.planner_c.specs.TreePromise.{Promised};
+ghost use Rattle.planner_c.specs.Promise.{PromisedTree};
 use crate::Answer;
 use crate::answer_of;
 use crate::reason::leave;
@@ -60,7 +60,7 @@ pub extern "C" fn planner_plan_tree(
     out: &mut [u8],
 ) -> Answer
     ensures { λ r. ⌜ left r (now (out .exit)) ≡ planTree (now (nodes .entry)) (definition.beside bo so head payload ack) sink (now (out .entry)) ⌝ }
-    ensures { λ r. ⌜ Promised (now (nodes .entry)) (definition.beside bo so head payload ack) sink r (now (out .exit)) ⌝ }
+    ensures { λ r. ⌜ PromisedTree (now (nodes .entry)) (definition.beside bo so head payload ack) sink r (now (out .exit)) ⌝ }
 {
     let b = beside(
         bo as u64,

@@ -13,13 +13,14 @@ use Rattle.refusals.specs.declared.Verdict.{Verdict}
 use Rattle.refusals.specs.declared.Verdict.the-variants.{Kept, Broken}
 use Rattle.refusals.specs.Refusals.{numberOf, placeOf}
 use Rattle.refusals.proofs.Answering.{verdict, first-part-answers}
-use Rattle.refusals.proofs.Unbroken.{unbroken-first, first-unbroken, unbroken-append, unbroken-left, unbroken-right}
+use Rattle.refusals.proofs.Unbroken.{unbroken-append, unbroken-left, unbroken-right}
 use Rattle.tree.specs.declared.NodeLine.{NodeLine}
 use Rattle.tree.specs.Lines.{lines}
 use Rattle.tree.specs.Checks.{conditions}
-use Rattle.tree.specs.Outcome.{Outcome, Planned, Refused}
+use Rattle.refusals.specs.Outcome.{Planned, Refused}
+use Rattle.tree.specs.Outcome.{TreeOutcome}
 use Rattle.tree.specs.Promise.{Keeps}
-use Rattle.tree.proofs.LawsHold.{no-plan}
+use Rattle.refusals.proofs.Outcomes.{planned-unbroken, unbroken-planned}
 use Rattle.nodes.specs.Survey.{treeIn, surveyed, outcomeIn}
 use Rattle.nodes.proofs.LawsHold.{every-text-keeps}
 use Rattle.report.specs.Text.{refusalText}
@@ -41,7 +42,7 @@ ten-before-two a input r h e = sym (output-refused a input r (sym (ten-broken a 
 pub read-arguments : ReadArguments
 unfolding treeOutput outcomeIn
 read-arguments a input h k = by (verdict (surveyed input (sinkOf a))) refl where
-  o : Outcome
+  o : TreeOutcome
   o = outcomeIn input (besideOf a) (sinkOf a)
 
   by : (v : Verdict) → verdict (surveyed input (sinkOf a)) ≡ v → treeOutput a input ≡ printed o
@@ -66,13 +67,13 @@ printed-lines-keep a input p e = by (callOutcome a input) refl e where
   own : List NodeLine
   own = lines b (treeIn input) sink
 
-  by : (o : Outcome) → callOutcome a input ≡ o → printed o ≡ treeText p → Keeps b (treeIn input) sink p
+  by : (o : TreeOutcome) → callOutcome a input ≡ o → printed o ≡ treeText p → Keeps b (treeIn input) sink p
   by (Refused r) q w = absurd (no-text r p w)
   by (Planned l) q w =
       let checked = conditions b (treeIn input) sink in
-      let u = first-unbroken Refused (Planned own) (Planned l) (no-plan l) (argumentConditions a input ++ checked) q in
+      let u = planned-unbroken own l (argumentConditions a input ++ checked) q in
       let s = unbroken-right (tooLong input) (surveyed input sink) (unbroken-left (tooLong input ++ surveyed input sink) (argued a) (unbroken-left (argumentConditions a input) checked (u .0))) in
       let c = unbroken-right (argumentConditions a input) checked (u .0) in
       let same : l ≡ p = one-text-for-trees l p w in
       every-text-keeps input b sink p
-      (unbroken-first Refused (Planned own) (surveyed input sink ++ checked) (unbroken-append (surveyed input sink) checked s c) ∙ u .1 ∙ ap Planned same)
+      (unbroken-planned own (surveyed input sink ++ checked) (unbroken-append (surveyed input sink) checked s c) ∙ ap Planned (u .1 ∙ same))

@@ -15,14 +15,15 @@ use Rattle.refusals.proofs.Answering.{verdict, broken-kept, first-part-answers,
 use Rattle.refusals.proofs.Unbroken.{kept-unbroken, unbroken-first, unbroken-left, unbroken-right}
 use Rattle.settings.specs.declared.Settings.{Settings}
 use Rattle.planner.specs.declared.Plan.{Plan}
-use Rattle.planner.specs.Plans.{refused}
+use Rattle.planner.specs.Plans.{planned, refused, answer, written}
+use Rattle.report.specs.TreeText.{treeText}
 use Rattle.report.specs.Text.{refusalText}
 use Rattle.tree.specs.declared.NodeLine.{NodeLine}
 use Rattle.tree.specs.Lines.{lines}
 use Rattle.tree.specs.Checks.{conditions}
-use Rattle.tree.specs.Outcome.{Outcome, Planned, Refused}
+use Rattle.refusals.specs.Outcome.{Planned, Refused}
+use Rattle.tree.specs.Outcome.{TreeOutcome}
 use Rattle.nodes.specs.Survey.{treeIn, surveyed, outcomeIn}
-use Rattle.surveys.specs.Plans.{planned, answer, written}
 use Rattle.printout.specs.declared.Arguments.{Arguments}
 use Rattle.batch.specs.Output.{tooLong}
 use Rattle.printout.specs.Output.{isUnreadable, argued, besideOf, sinkOf, argumentConditions, callOutcome, printed, treeOutput}
@@ -139,12 +140,12 @@ module _ (a : Arguments) (input : List ℕ) where
         sym (second-part-answers Refused (Planned own) (surveyed input sink) checked list-kept)
         ∙ second-part-answers Refused (Planned own) (argumentConditions a input) checked k
 
-    module _ (plan : Plan) (e : plan ≡ answer (outcomeIn input b sink)) where
-      answered : plan ≡ answer (callOutcome a input)
-      answered = e ∙ ap answer call-planned
+    module _ (plan : Plan) (e : plan ≡ answer treeText (outcomeIn input b sink)) where
+      answered : plan ≡ answer treeText (callOutcome a input)
+      answered = e ∙ ap (answer treeText) call-planned
 
       -- a plan that is refused has put nothing, and its refusal is printed
-      refused-is : (o : Outcome) (r : Refusal) → plan ≡ answer o → plan .verdict ≡ Broken r → (refusalText r ≡ printed o) × ([] ≡ written o)
+      refused-is : (o : TreeOutcome) (r : Refusal) → plan ≡ answer treeText o → plan .verdict ≡ Broken r → (refusalText r ≡ printed o) × ([] ≡ written treeText o)
       unfolding answer planned refused printed written
       refused-is (Planned p) r q v = broken-kept r (sym v ∙ ap (λ (x : Plan). x .verdict) q)
       refused-is (Refused s) r q v = (ap refusalText (same (sym v ∙ ap (λ (x : Plan). x .verdict) q)), refl)
@@ -152,16 +153,16 @@ module _ (a : Arguments) (input : List ℕ) where
           same : Broken r ≡ Broken s → r ≡ s
           same w = cc
 
-      pub plan-refused : (r : Refusal) → plan .verdict ≡ Broken r → (refusalText r ≡ treeOutput a input) × ([] ≡ written (outcomeIn input b sink))
+      pub plan-refused : (r : Refusal) → plan .verdict ≡ Broken r → (refusalText r ≡ treeOutput a input) × ([] ≡ written treeText (outcomeIn input b sink))
       unfolding treeOutput
-      plan-refused r v = let w = refused-is (callOutcome a input) r answered v in (w .0, w .1 ∙ ap written (sym call-planned))
+      plan-refused r v = let w = refused-is (callOutcome a input) r answered v in (w .0, w .1 ∙ ap (written treeText) (sym call-planned))
 
       -- one that is planned has put all that is printed
-      planned-is : (o : Outcome) → plan ≡ answer o → plan .verdict ≡ Kept → (plan .length ≡ length (printed o)) × (written o ≡ printed o)
+      planned-is : (o : TreeOutcome) → plan ≡ answer treeText o → plan .verdict ≡ Kept → (plan .length ≡ length (printed o)) × (written treeText o ≡ printed o)
       unfolding answer planned refused printed written
       planned-is (Planned p) q v = (ap (λ (x : Plan). x .length) q, refl)
       planned-is (Refused s) q v = broken-kept s (sym (ap (λ (x : Plan). x .verdict) q) ∙ v)
 
-      pub plan-planned : plan .verdict ≡ Kept → (plan .length ≡ length (treeOutput a input)) × (written (outcomeIn input b sink) ≡ treeOutput a input)
+      pub plan-planned : plan .verdict ≡ Kept → (plan .length ≡ length (treeOutput a input)) × (written treeText (outcomeIn input b sink) ≡ treeOutput a input)
       unfolding treeOutput
-      plan-planned v = let w = planned-is (callOutcome a input) answered v in (w .0, ap written call-planned ∙ w .1)
+      plan-planned v = let w = planned-is (callOutcome a input) answered v in (w .0, ap (written treeText) call-planned ∙ w .1)

@@ -11,7 +11,8 @@ use Rattle.settings.specs.declared.Settings.{Settings}
 use Rattle.tree.specs.Beside.{beside}
 use Rattle.tree.specs.Lines.{lines}
 use Rattle.tree.specs.Checks.{conditions}
-use Rattle.tree.specs.Outcome.{Outcome, Planned, Refused}
+use Rattle.refusals.specs.Outcome.{Planned, Refused}
+use Rattle.tree.specs.Outcome.{TreeOutcome}
 use Rattle.nodes.specs.Survey.{treeIn, surveyed}
 use Rattle.report.specs.Text.{refusalText}
 use Rattle.report.specs.TreeText.{treeText}
@@ -48,13 +49,13 @@ unfoldable pub argumentConditions : Arguments → List ℕ → List (Condition R
 argumentConditions a input = tooLong input ++ surveyed input (sinkOf a) ++ argued a
 
 -- then numbers 3 to 7, or the plan
-unfoldable pub callOutcome : Arguments → List ℕ → Outcome
+unfoldable pub callOutcome : Arguments → List ℕ → TreeOutcome
 callOutcome a input =
     firstBroken Refused (Planned (lines (besideOf a) (treeIn input) (sinkOf a)))
     (argumentConditions a input ++ conditions (besideOf a) (treeIn input) (sinkOf a))
 
 -- what is printed: the plan's text, or `R`, number and place of the first refusal
-unfoldable pub printed : Outcome → List ℕ
+unfoldable pub printed : TreeOutcome → List ℕ
 printed (Planned p) = treeText p
 printed (Refused r) = refusalText r
 

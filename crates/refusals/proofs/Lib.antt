@@ -3,6 +3,8 @@
 pub mod Answering
 -- conditions of which none is broken
 pub mod Unbroken
+-- outcomes, whatever the sort of plan
+pub mod Outcomes
 -- the examples of specs/Examples
 pub mod ExamplesHold
 -- every refusal has a number

@@ -1,7 +1,5 @@
--- Definitions of plans of surveyed trees. Assumes nothing.
--- what a reader must believe: the answer to an outcome, and what is put
-pub mod Plans
--- what the inner functions require and answer: the reading of a list
+-- What the inner functions of surveyed trees' plans require and answer; what a reader must believe stands in `tree`, `nodes` and `planner`. Assumes nothing.
+-- the reading of a list
 pub mod Lists
 -- the walk
 pub mod Inner

@@ -13,7 +13,8 @@ ghost use Rattle.tree.specs.Beside as definition;
 ghost use Rattle.tree.specs.Lines.{lines};
 ghost use Rattle.tree.specs.Promise.{Keeps};
 ghost use Rattle.nodes.specs.Survey.{treeIn, surveyed, outcomeIn};
-ghost use Rattle.surveys.specs.Plans.{answer, written};
+ghost use Rattle.planner.specs.Plans.{answer, written};
+ghost use Rattle.report.specs.TreeText.{treeText};
 ghost use Rattle.surveys.specs.Inner.{Listing, listedOutcome};
 use crate::lists::read_list;
 use crate::plans::check_before_slots;
@@ -58,9 +59,9 @@ pub fn beside(bo: u64, so: u64, head: u64, payload: u64, ack: u64) -> Settings
 // Plans the tree of a text with any settings and any sink, and puts the plan's text at the front of lent memory, as far as there is room. A
 // refused tree leaves every byte as it was. Where it is planned, demand 3 holds of the lines.
 pub fn plan_tree(input: &[u8], b: Settings, sink: u64, out: &mut [u8]) -> Plan
-    ensures { λ r. ⌜ r ≡ answer (outcomeIn (now (input .entry)) b sink) ⌝ }
+    ensures { λ r. ⌜ r ≡ answer treeText (outcomeIn (now (input .entry)) b sink) ⌝ }
     ensures { λ r. ⌜ r .length ≤ 48576 ⌝ }
-    ensures { λ _. ⌜ now (out .exit) ≡ sets (now (out .entry)) 0 (written (outcomeIn (now (input .entry)) b sink)) ⌝ }
+    ensures { λ _. ⌜ now (out .exit) ≡ sets (now (out .entry)) 0 (written treeText (outcomeIn (now (input .entry)) b sink)) ⌝ }
     ensures { λ r. ⌜ (r .verdict ≡ Kept → Keeps b (treeIn (now (input .entry))) sink (lines b (treeIn (now (input .entry))) sink)) ⌝ }
 {
     let mut parents = [0u8; 255];
@@ -104,10 +105,10 @@ fn plan_listed(
     out: &mut [u8],
 ) -> Plan
     requires { ⌜ Listing (now parents) (now bursts) (now rates) ⌝ }
-    ensures { λ r. ⌜ r ≡ answer (listedOutcome b (treeOf (now (parents .entry)) (now (bursts .entry)) (now (rates .entry))) sink) ⌝ }
+    ensures { λ r. ⌜ r ≡ answer treeText (listedOutcome b (treeOf (now (parents .entry)) (now (bursts .entry)) (now (rates .entry))) sink) ⌝ }
     ensures { λ r. ⌜ r .length ≤ 48576 ⌝ }
     ensures { λ _. ⌜ now (out .exit) ≡ sets (now (out .entry)) 0
-        (written (listedOutcome b (treeOf (now (parents .entry)) (now (bursts .entry)) (now (rates .entry))) sink)) ⌝ }
+        (written treeText (listedOutcome b (treeOf (now (parents .entry)) (now (bursts .entry)) (now (rates .entry))) sink)) ⌝ }
 {
     let verdict = check_before_slots(parents, b, sink);
     if let Verdict::Broken(refusal) = verdict {

@@ -9,7 +9,8 @@ ghost use Rattle.refusals.specs.Conditions.{firstBroken};
 ghost use Rattle.settings.specs.Laws.{Checked};
 ghost use Rattle.tree.specs.Tree.{treeOf};
 ghost use Rattle.tree.specs.Checks.{routersFit};
-ghost use Rattle.surveys.specs.Plans.{answer, written};
+ghost use Rattle.planner.specs.Plans.{answer, written};
+ghost use Rattle.report.specs.TreeText.{treeText};
 ghost use Rattle.surveys.specs.Inner.{shape, Listing, checksBeforeSlots, loadedOutcome};
 use crate::figures::set_delays;
 use crate::page::put_lines;
@@ -72,10 +73,10 @@ pub(crate) fn plan_checked(
     requires { ⌜ Checked b ⌝ }
     requires { ⌜ 1 ≤ sink ⌝ }
     requires { ⌜ sink < length (now parents) ⌝ }
-    ensures { λ r. ⌜ r ≡ answer (loadedOutcome b (treeOf (now (parents .entry)) (now (bursts .entry)) (now (rates .entry))) sink) ⌝ }
+    ensures { λ r. ⌜ r ≡ answer treeText (loadedOutcome b (treeOf (now (parents .entry)) (now (bursts .entry)) (now (rates .entry))) sink) ⌝ }
     ensures { λ r. ⌜ r .length ≤ 48576 ⌝ }
     ensures { λ _. ⌜ now (out .exit) ≡ sets (now (out .entry)) 0
-        (written (loadedOutcome b (treeOf (now (parents .entry)) (now (bursts .entry)) (now (rates .entry))) sink)) ⌝ }
+        (written treeText (loadedOutcome b (treeOf (now (parents .entry)) (now (bursts .entry)) (now (rates .entry))) sink)) ⌝ }
 {
     let t = timing_of(b);
     let mut in_rates = [0u64; 255];

@@ -1,6 +1,6 @@
 -- The laws of specs/Laws. Assumes nothing.
 use mathlib.Core.Path.{_≡_, refl, ap, subst, _∙_}
-use mathlib.Core.Bool.{Bool, true, false, true≢false, false≢true}
+use mathlib.Core.Bool.{true, false, true≢false}
 use mathlib.Core.List.{List, [], _∷_}
 use Prim.Native.Nat.{ℕ, suc, _*_, _≤_}
 use native.Mathlib.Decide.{ℕ-discrete}
@@ -13,8 +13,6 @@ use Rattle.network.specs.Counting.{All, none, each, bit}
 use Rattle.network.proofs.Lists.{All-join}
 use Rattle.links.specs.Link.{slotsOf}
 use Rattle.links.proofs.LinkLaws.{slots-hold}
-use Rattle.refusals.specs.declared.Refusal.{Refusal}
-use Rattle.refusals.proofs.Unbroken.{unbroken-first, first-unbroken}
 use Rattle.settings.specs.declared.Settings.{Settings}
 use Rattle.settings.specs.Laws.{Checked}
 use Rattle.balanced.specs.declared.Kind.the-variants.{Sink}
@@ -27,7 +25,9 @@ use Rattle.tree.specs.Ways.{next, superframeOf, kindOf}
 use Rattle.tree.specs.Loads.{entering}
 use Rattle.tree.specs.Lines.{loadAt, linkAt, figuresAt, lineAt, lines}
 use Rattle.tree.specs.Checks.{reserves, reservationsAt, usedAt, reservableAt, conditions}
-use Rattle.tree.specs.Outcome.{Outcome, Planned, Refused, outcomeOf}
+use Rattle.refusals.proofs.Outcomes.{planned-unbroken, unbroken-planned}
+use Rattle.refusals.specs.Outcome.{Planned}
+use Rattle.tree.specs.Outcome.{outcomeOf}
 use Rattle.tree.specs.Promise.{networkOf, Windows, Keeps}
 use Rattle.tree.specs.Laws.{Surveyed, Plannable, PlannedExactly, NoSlotTooMany, EveryLoadBounded, EveryPlanKeeps, WindowsExist}
 use Rattle.tree.proofs.LoadBounds.{Low, input-low}
@@ -39,27 +39,11 @@ use Rattle.tree.proofs.Promised.{keeps}
 
 -- ---- planned exactly
 
--- a refusal is no plan
-pub no-plan : (p : List NodeLine) (r : Refusal) → Refused r ≡ Planned p → ⊥
-no-plan p r e = false≢true (ap planned e)
-  where
-    planned : Outcome → Bool
-    planned (Planned q) = true
-    planned (Refused x) = false
-
--- and a plan is known by its lines
-pub same-lines : (p q : List NodeLine) → Planned p ≡ Planned q → p ≡ q
-same-lines p q e = ap linesOf e
-  where
-    linesOf : Outcome → List NodeLine
-    linesOf (Planned l) = l
-    linesOf (Refused x) = []
-
 pub planned-exactly : PlannedExactly
 unfolding outcomeOf
 planned-exactly b t s p = (
-  λ e. let u = first-unbroken Refused (Planned (lines b t s)) (Planned p) (no-plan p) (conditions b t s) e in (unbroken-plannable b t s (u .0), same-lines (lines b t s) p (u .1)),
-  λ h. unbroken-first Refused (Planned (lines b t s)) (conditions b t s) (plannable-unbroken b t s (h .0)) ∙ ap Planned (h .1),
+  λ e. let u = planned-unbroken (lines b t s) p (conditions b t s) e in (unbroken-plannable b t s (u .0), u .1),
+  λ h. unbroken-planned (lines b t s) (conditions b t s) (plannable-unbroken b t s (h .0)) ∙ ap Planned (h .1),
 )
 
 -- what holds of the lines of a tree that can be planned holds of every plan

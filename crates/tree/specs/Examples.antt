@@ -18,7 +18,8 @@ use Rattle.tree.specs.Ways.{next, superframeOf, kindOf, depthOf}
 use Rattle.tree.specs.Beside.{beside}
 use Rattle.tree.specs.Lines.{lines}
 use Rattle.tree.specs.Checks.{reservationsAt, usedAt, reservableAt}
-use Rattle.tree.specs.Outcome.{Planned, Refused, outcomeOf}
+use Rattle.refusals.specs.Outcome.{Planned, Refused}
+use Rattle.tree.specs.Outcome.{outcomeOf}
 use Rattle.tree.specs.Promise.{longest}
 
 -- the nodes 1 to n

@@ -18,7 +18,8 @@ use Rattle.tree.specs.declared.NodeLine.{NodeLine}
 use Rattle.tree.specs.Tree.{Tree, Planted, Ranged, routers}
 use Rattle.tree.specs.Lines.{loadAt, lines}
 use Rattle.tree.specs.Checks.{reservationsAt, usedAt, reservableAt}
-use Rattle.tree.specs.Outcome.{Planned, outcomeOf}
+use Rattle.refusals.specs.Outcome.{Planned}
+use Rattle.tree.specs.Outcome.{outcomeOf}
 use Rattle.tree.specs.Promise.{networkOf, Windows, Keeps}
 
 -- a tree that keeps number 10: its node list keeps every rule, and the sink is one of its nodes

@@ -1,17 +1,16 @@
 -- A surveyed tree's outcome: its plan, or the first refusal of numbers 3 to 7. Assumes nothing: these are definitions.
 use Prim.Native.Nat.{ℕ}
 use mathlib.Core.List.{List}
-use Rattle.refusals.specs.declared.Refusal.{Refusal}
 use Rattle.refusals.specs.Conditions.{firstBroken}
+use Rattle.refusals.specs.Outcome.{Outcome, Planned, Refused}
 use Rattle.settings.specs.declared.Settings.{Settings}
 use Rattle.tree.specs.declared.NodeLine.{NodeLine}
 use Rattle.tree.specs.Tree.{Tree}
 use Rattle.tree.specs.Checks.{conditions}
 use Rattle.tree.specs.Lines.{lines}
 
-pub data Outcome : Type 0 where
-  Planned : List NodeLine → Outcome
-  Refused : Refusal → Outcome
+abbrev pub TreeOutcome : Type 0
+TreeOutcome = Outcome (List NodeLine)
 
-unfoldable pub outcomeOf : Settings → Tree → ℕ → Outcome
+unfoldable pub outcomeOf : Settings → Tree → ℕ → TreeOutcome
 outcomeOf b t sink = firstBroken Refused (Planned (lines b t sink)) (conditions b t sink)

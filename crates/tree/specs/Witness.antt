@@ -16,7 +16,8 @@ use Rattle.balanced.specs.Witness.{lengthsAt}
 use Rattle.tree.specs.Tree.{Tree, treeOf}
 use Rattle.tree.specs.Beside.{beside}
 use Rattle.tree.specs.Lines.{lines}
-use Rattle.tree.specs.Outcome.{Planned, outcomeOf}
+use Rattle.refusals.specs.Outcome.{Planned}
+use Rattle.tree.specs.Outcome.{outcomeOf}
 use Rattle.tree.specs.Promise.{printed, route, longest, networkOf, Windows, Readings, Held}
 use Rattle.tree.specs.Laws.{Surveyed}
 use Rattle.tree.specs.Examples.{table}

@@ -2,7 +2,8 @@
 use mathlib.Core.Path.{ap, _∙_}
 use lib.Seq.{sets}
 use borrow.Author.Needs.{needs}
-use Rattle.balanced.specs.Outcome.{Outcome}
+use Rattle.balanced.specs.Outcome.{RowOutcome}
+use Rattle.report.specs.Text.{text}
 use Rattle.planner.specs.Plans.{answer, written}
 use Rattle.answers.specs.Inner.{readOutcome}
 use Rattle.answers.proofs.Reading.{named-outcome}
@@ -23,7 +24,7 @@ returns c =
     let a = c .before .before .before .before .before .before .before .before .args in
     let w = c .before .before .plan-read .ensures in
     let e = ap readOutcome (c .before .before .before .before .read-named-row .ensures) ∙ named-outcome (a .names .now) (a .row .now) in
-    (w .0 ∙ ap answer e, (w .1 .0, w .1 .1 ∙ ap (λ (o : Outcome). sets (a .out .now) 0 (written o)) e))
+    (w .0 ∙ ap (answer text) e, (w .1 .0, w .1 .1 ∙ ap (λ (o : RowOutcome). sets (a .out .now) 0 (written text o)) e))
 
 pub plan-named-row-spec : {M : Type 1} → statement M
 plan-named-row-spec =

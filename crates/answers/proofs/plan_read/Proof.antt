@@ -2,7 +2,7 @@
 use mathlib.Core.Path.{refl}
 use borrow.Author.Needs.{needs}
 use Rattle.planner.specs.Plans.{answer, written}
-use Rattle.planner.proofs.Answers.{refused-short}
+use Rattle.planner.proofs.Answered.{refused-short}
 use Rattle.answers.specs.Inner.{readOutcome}
 use Rattle.answers.proofs.plan_read.Statement.{statement}
 use Rattle.answers.proofs.plan_read.Tie as tie
@@ -28,7 +28,7 @@ returns c = let w = c .before .before .plan-of .ensures in rw (c .before .before
 
 returns-2 : tie.Need-returns-2
 unfolding readOutcome answer written
-returns-2 c = rw (c .before .before .row2 .given .1) (c .refused-plan .ensures, (refused-short _ _ (c .refused-plan .ensures), refl))
+returns-2 c = rw (c .before .before .row2 .given .1) (c .refused-plan .ensures, (refused-short 4476 _ _ (c .refused-plan .ensures), refl))
 
 pub plan-read-spec : {M : Type 1} → statement M
 plan-read-spec =

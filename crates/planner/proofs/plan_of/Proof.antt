@@ -2,9 +2,11 @@
 use mathlib.Core.Path.{sym, ap, _∙_}
 use lib.Seq.{sets}
 use borrow.Author.Needs.{needs}
-use Rattle.balanced.specs.Outcome.{Outcome}
+use Rattle.balanced.specs.Outcome.{RowOutcome}
+use Rattle.report.specs.Text.{text}
 use Rattle.planner.specs.Plans.{answer, written}
-use Rattle.planner.proofs.Answers.{before-slots-broken, before-slots-kept, kept-sound, plan-keeps, refused-answer, refused-put, refused-short}
+use Rattle.planner.proofs.Answers.{before-slots-broken, before-slots-kept, kept-sound, plan-keeps}
+use Rattle.planner.proofs.Answered.{refused-answer, refused-put, refused-short}
 use Rattle.planner.proofs.plan_of.Statement.{statement}
 use Rattle.planner.proofs.plan_of.Tie as tie
 
@@ -21,8 +23,8 @@ returns : tie.Need-returns
 returns c =
     let a = c .before .before .before .before .before .before .args in
     let o = before-slots-broken (a .s) _ (sym (c .before .before .before .before .check-before-slots .ensures) ∙ c .before .before .verdict .given .1) in
-    let e = c .refused-plan .ensures ∙ refused-answer _ _ o in
-    (e, (refused-short _ _ (c .refused-plan .ensures), (refused-put _ _ (a .out .now) o, plan-keeps (a .s) (c .refused-plan .result) e)))
+    let e = c .refused-plan .ensures ∙ refused-answer text _ _ o in
+    (e, (refused-short 4476 _ _ (c .refused-plan .ensures), (refused-put text _ _ (a .out .now) o, plan-keeps (a .s) (c .refused-plan .result) e)))
 
 enum-told : tie.Need-enum-told
 enum-told c = search needs
@@ -38,8 +40,8 @@ returns-2 c =
     let s = c .before .before .before .before .before .before .before .before .args .s in
     let o = before-slots-kept s (sym (c .before .before .before .before .before .before .check-before-slots .ensures) ∙ c .before .before .before .before .enum-told .given .1) in
     let w = c .before .before .plan-sound .ensures in
-    let e = w .0 ∙ ap answer o in
-    (e, (w .1 .0, (w .1 .1 ∙ ap (λ (x : Outcome). sets (c .before .before .before .before .before .before .before .before .args .out .now) 0 (written x)) o, plan-keeps s (c .before .before .plan-sound .result) e)))
+    let e = w .0 ∙ ap (answer text) o in
+    (e, (w .1 .0, (w .1 .1 ∙ ap (λ (x : RowOutcome). sets (c .before .before .before .before .before .before .before .before .args .out .now) 0 (written text x)) o, plan-keeps s (c .before .before .plan-sound .result) e)))
 
 pub plan-of-spec : {M : Type 1} → statement M
 plan-of-spec =

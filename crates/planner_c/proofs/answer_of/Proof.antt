@@ -1,7 +1,7 @@
 -- `planner_c::answer_of` meets its contract. Assumes nothing.
 use mathlib.Core.Path.{refl}
 use borrow.Author.Needs.{needs}
-use Rattle.planner_c.specs.Entries.{told}
+use Rattle.planner_c.specs.Calls.{toldRefusal}
 use Rattle.planner_c.specs.Inner.{answerBy, answerOf}
 use Rattle.planner_c.proofs.answer_of.Statement.{statement}
 use Rattle.planner_c.proofs.answer_of.Tie as tie
@@ -13,7 +13,7 @@ refused-requires : tie.Need-refused-requires
 refused-requires c κs = search needs
 
 returns : tie.Need-returns
-unfolding answerOf answerBy told
+unfolding answerOf answerBy toldRefusal
 returns c = rw (c .before .before .verdict .given .1) (c .refused .ensures)
 
 enum-told : tie.Need-enum-told

@@ -1,6 +1,9 @@
 -- `planner_c::planner_check_row` meets its contract. Assumes nothing.
+use Rattle.answers.specs.Outcomes.{namedOutcome}
+use Rattle.report.specs.Text.{text}
+use Rattle.planner_c.specs.Entries.{checkRow}
 use borrow.Author.Needs.{needs}
-use Rattle.planner_c.proofs.Leaving.{check-left, check-short}
+use Rattle.planner_c.proofs.Leaving.{plan-told, told-short}
 use Rattle.planner_c.proofs.planner_check_row.Statement.{statement}
 use Rattle.planner_c.proofs.planner_check_row.Tie as tie
 
@@ -14,12 +17,13 @@ answer-of-requires : tie.Need-answer-of-requires
 answer-of-requires c κs = search needs
 
 returns : tie.Need-returns
+unfolding checkRow
 returns c =
     let a = c .before .before .before .before .before .before .args in
     let plan = c .before .before .plan-named-row in
     let w = plan .ensures in (
-      check-left (a .names .now) (a .row .now) (plan .result) (w .0) _ (c .answer-of .ensures),
-      check-short (a .names .now) (a .row .now) (plan .result) (w .0) _ (c .answer-of .ensures) (w .1 .0),
+      plan-told text (namedOutcome (a .names .now) (a .row .now)) (plan .result) (w .0) _ (c .answer-of .ensures),
+      told-short text (namedOutcome (a .names .now) (a .row .now)) (plan .result) (w .0) 4476 _ (c .answer-of .ensures) (w .1 .0),
     )
 
 pub planner-check-row-spec : {M : Type 1} → statement M

@@ -1,7 +1,7 @@
 -- `planner_c::refused` meets its contract. Assumes nothing.
 use mathlib.Core.Path.{refl}
 use borrow.Author.Needs.{needs}
-use Rattle.planner_c.specs.Entries.{told}
+use Rattle.planner_c.specs.Calls.{toldRefusal}
 use Rattle.planner_c.proofs.refused.Statement.{statement}
 use Rattle.planner_c.proofs.refused.Tie as tie
 
@@ -12,7 +12,7 @@ place-requires : tie.Need-place-requires
 place-requires c κs = search needs
 
 returns : tie.Need-returns
-unfolding told
+unfolding toldRefusal
 returns c = rw (c .before .number .ensures, c .place .ensures) refl
 
 pub refused-spec : {M : Type 1} → statement M

@@ -7,7 +7,8 @@ use lib.ListN.{length}
 use lib.Seq.{sets}
 use Rattle.nodes.specs.Survey.{outcomeIn}
 use Rattle.settings.specs.declared.Settings.{Settings}
-use Rattle.surveys.specs.Plans.{answer, written}
+use Rattle.planner.specs.Plans.{answer, written}
+use Rattle.report.specs.TreeText.{treeText}
 use Rattle.printout.proofs.Outputs.{output-refused, plan-refused, plan-planned}
 use borrow.Author.Needs.{needs}
 use Rattle.printout.proofs.put_tree_output.Statement.{statement}
@@ -60,9 +61,9 @@ returns-2 c =
     let plan = c .before .before .before .before .before .before .before .before .before .plan-tree in
     let w = plan .ensures in
     let o = ap₂ (λ (b : Settings) (s : ℕ). outcomeIn (a .input .now) b s) (c .before .before .before .before .before .before .before .before .before .before .before .before .settings-of .ensures) (c .before .before .before .before .before .before .before .before .before .before .before .sink-of .ensures) in
-    let e = plan-refused (a .arguments) (a .input .now) k (plan .result) (w .0 ∙ ap answer o) _ (c .before .before .before .before .before .verdict2 .given .1) in
+    let e = plan-refused (a .arguments) (a .input .now) k (plan .result) (w .0 ∙ ap (answer treeText) o) _ (c .before .before .before .before .before .verdict2 .given .1) in
     let put = c .before .before .put-refusal2 .ensures in
-    let same : plan .last .1 .1 .1 .0 ≡ a .out .now = w .1 .1 .0 ∙ ap (λ (t : List ℕ). sets (a .out .now) 0 t) (ap written o ∙ sym (e .1)) in
+    let same : plan .last .1 .1 .1 .0 ≡ a .out .now = w .1 .1 .0 ∙ ap (λ (t : List ℕ). sets (a .out .now) 0 t) (ap (written treeText) o ∙ sym (e .1)) in
     (put .0 ∙ ap length (e .0), (omega (arith, put .1 .0), put .1 .1 ∙ ap₂ (λ (b t : List ℕ). sets b 0 t) same (e .0)))
 
 enum-told-2 : tie.Need-enum-told-2
@@ -78,8 +79,8 @@ returns-3 c =
     let plan = c .before .before .before .before .plan-tree in
     let w = plan .ensures in
     let o = ap₂ (λ (b : Settings) (s : ℕ). outcomeIn (a .input .now) b s) (c .before .before .before .before .before .before .before .settings-of .ensures) (c .before .before .before .before .before .before .sink-of .ensures) in
-    let e = plan-planned (a .arguments) (a .input .now) k (plan .result) (w .0 ∙ ap answer o) (c .enum-told2 .given .1) in
-    (e .0, (w .1 .0, w .1 .1 .0 ∙ ap (λ (t : List ℕ). sets (a .out .now) 0 t) (ap written o ∙ e .1)))
+    let e = plan-planned (a .arguments) (a .input .now) k (plan .result) (w .0 ∙ ap (answer treeText) o) (c .enum-told2 .given .1) in
+    (e .0, (w .1 .0, w .1 .1 .0 ∙ ap (λ (t : List ℕ). sets (a .out .now) 0 t) (ap (written treeText) o ∙ e .1)))
 
 pub put-tree-output-spec : {M : Type 1} → statement M
 put-tree-output-spec =

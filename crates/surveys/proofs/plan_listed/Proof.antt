@@ -4,10 +4,12 @@ use lib.Seq.{sets}
 use native.Mathlib.Omega.{arith}
 use Rattle.refusals.proofs.Answering.{verdict}
 use Rattle.tree.specs.Tree.{treeOf}
-use Rattle.tree.specs.Outcome.{Outcome}
-use Rattle.surveys.specs.Plans.{answer, written}
+use Rattle.tree.specs.Outcome.{TreeOutcome}
+use Rattle.planner.specs.Plans.{answer, written}
 use Rattle.surveys.proofs.Shaped.{before-slots-same}
-use Rattle.surveys.proofs.Answers.{before-broken, before-kept, before-checked, before-sink, refused-answer, refused-short, refused-put}
+use Rattle.planner.proofs.Answered.{refused-answer, refused-short, refused-put}
+use Rattle.report.specs.TreeText.{treeText}
+use Rattle.surveys.proofs.Answers.{before-broken, before-kept, before-checked, before-sink}
 use borrow.Author.Needs.{needs}
 use Rattle.surveys.proofs.plan_listed.Statement.{statement}
 use Rattle.surveys.proofs.plan_listed.Tie as tie
@@ -26,7 +28,7 @@ returns c =
     let a = c .before .before .before .before .before .before .before .before .before .args in
     let t = treeOf (a .parents .now) (a .bursts .now) (a .rates .now) in
     let o = before-broken (a .b) t (a .sink) _ (ap verdict (sym (before-slots-same (a .parents .now) (a .bursts .now) (a .rates .now) (a .b) (a .sink))) ∙ sym (c .before .before .before .before .check-before-slots .ensures) ∙ c .before .before .verdict .given .1) in
-    (c .refused-plan .ensures ∙ refused-answer _ _ o, (refused-short _ _ (c .refused-plan .ensures), refused-put _ _ (a .out .now) o))
+    (c .refused-plan .ensures ∙ refused-answer treeText _ _ o, (refused-short 48576 _ _ (c .refused-plan .ensures), refused-put treeText _ _ (a .out .now) o))
 
 enum-told : tie.Need-enum-told
 enum-told c = search needs
@@ -48,7 +50,7 @@ returns-2 c =
     let t = treeOf (a .parents .now) (a .bursts .now) (a .rates .now) in
     let o = before-kept (a .b) t (a .sink) (ap verdict (sym (before-slots-same (a .parents .now) (a .bursts .now) (a .rates .now) (a .b) (a .sink))) ∙ sym (c .before .before .before .before .before .before .check-before-slots .ensures) ∙ c .before .before .before .before .enum-told .given .1) in
     let w = c .before .before .plan-checked .ensures in
-    (w .0 ∙ ap answer o, (w .1 .0, w .1 .1 ∙ ap (λ (x : Outcome). sets (a .out .now) 0 (written x)) o))
+    (w .0 ∙ ap (answer treeText) o, (w .1 .0, w .1 .1 ∙ ap (λ (x : TreeOutcome). sets (a .out .now) 0 (written treeText x)) o))
 
 pub plan-listed-spec : {M : Type 1} → statement M
 plan-listed-spec =

@@ -4,10 +4,12 @@ use Prim.Native.Nat.{_+_, _≤_}
 use native.Mathlib.Omega.{arith}
 use lib.Seq.{sets, length-take-le}
 use Rattle.tree.specs.Tree.{Tree}
-use Rattle.tree.specs.Outcome.{Outcome}
-use Rattle.surveys.specs.Plans.{answer, written}
+use Rattle.tree.specs.Outcome.{TreeOutcome}
+use Rattle.planner.specs.Plans.{answer, written}
 use Rattle.surveys.specs.Inner.{listedOutcome}
-use Rattle.surveys.proofs.Answers.{text-broken, text-kept, few-nodes, tree-taken, listing, refused-answer, refused-short, refused-put, plan-keeps}
+use Rattle.planner.proofs.Answered.{refused-answer, refused-short, refused-put}
+use Rattle.report.specs.TreeText.{treeText}
+use Rattle.surveys.proofs.Answers.{text-broken, text-kept, few-nodes, tree-taken, listing, plan-keeps}
 use borrow.Author.Needs.{needs}
 use Rattle.surveys.proofs.plan_tree.Statement.{statement}
 use Rattle.surveys.proofs.plan_tree.Tie as tie
@@ -42,8 +44,8 @@ returns : tie.Need-returns
 returns c =
     let a = c .before .before .before .before .before .before .before .before .before .before .before .before .before .args in
     let o = text-broken (a .input .now) (a .b) (a .sink) _ (sym (c .before .before .before .before .before .before .before .read-list .ensures .verdict) ∙ c .before .before .verdict .given .1) in
-    let e = c .refused-plan .ensures ∙ refused-answer _ _ o in
-    (e, (refused-short _ _ (c .refused-plan .ensures), (refused-put _ _ (a .out .now) o, plan-keeps (a .input .now) (a .b) (a .sink) (c .refused-plan .result) e)))
+    let e = c .refused-plan .ensures ∙ refused-answer treeText _ _ o in
+    (e, (refused-short 48576 _ _ (c .refused-plan .ensures), (refused-put treeText _ _ (a .out .now) o, plan-keeps (a .input .now) (a .b) (a .sink) (c .refused-plan .result) e)))
 
 enum-told : tie.Need-enum-told
 enum-told c = search needs
@@ -87,8 +89,8 @@ returns-2 c =
     let t = tree-taken (a .input .now) q (r .result .nodes) _ _ _ (r .ensures .whole k) in
     let o = ap (λ (x : Tree). listedOutcome (a .b) x (a .sink)) t ∙ text-kept (a .input .now) (a .b) (a .sink) q in
     let w = c .before .before .plan-listed .ensures in
-    let e = w .0 ∙ ap answer o in
-    (e, (w .1 .0, (w .1 .1 ∙ ap (λ (x : Outcome). sets (a .out .now) 0 (written x)) o, plan-keeps (a .input .now) (a .b) (a .sink) (c .before .before .plan-listed .result) e)))
+    let e = w .0 ∙ ap (answer treeText) o in
+    (e, (w .1 .0, (w .1 .1 ∙ ap (λ (x : TreeOutcome). sets (a .out .now) 0 (written treeText x)) o, plan-keeps (a .input .now) (a .b) (a .sink) (c .before .before .plan-listed .result) e)))
 
 pub plan-tree-spec : {M : Type 1} → statement M
 plan-tree-spec =

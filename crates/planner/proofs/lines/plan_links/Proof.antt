@@ -6,7 +6,9 @@ use Rattle.balanced.specs.Lines.{lines}
 use Rattle.planner.specs.declared.table.Link.{Link}
 use Rattle.planner.specs.Inner.{linkIn}
 use Rattle.planner.proofs.Ends.{sink-load-made}
-use Rattle.planner.proofs.Answers.{slots-broken, slots-kept, refused-answer, refused-short, refused-put, planned-answer, planned-put}
+use Rattle.planner.proofs.Answers.{slots-broken, slots-kept}
+use Rattle.planner.proofs.Answered.{refused-answer, refused-short, refused-put, planned-answer, planned-put}
+use Rattle.report.specs.Text.{text}
 use Rattle.planner.proofs.lines.plan_links.Statement.{statement}
 use Rattle.planner.proofs.lines.plan_links.Tie as tie
 
@@ -23,7 +25,7 @@ returns : tie.Need-returns
 returns c =
     let a = c .before .before .before .before .before .before .before .before .args in
     let o = slots-broken (a .s) _ (sym (c .before .before .before .before .slots-fit .ensures) ∙ c .before .before .verdict .given .1) in
-    (c .refused-plan .ensures ∙ refused-answer _ _ o, (refused-short _ _ (c .refused-plan .ensures), refused-put _ _ (a .out .now) o))
+    (c .refused-plan .ensures ∙ refused-answer text _ _ o, (refused-short 4476 _ _ (c .refused-plan .ensures), refused-put text _ _ (a .out .now) o))
 
 enum-told : tie.Need-enum-told
 enum-told c = search needs
@@ -51,7 +53,7 @@ returns-2 c =
     let a = c .before .before .before .before .before .before .before .before .before .before .before .before .args in
     let o = slots-kept (a .s) (sym (c .before .before .before .before .before .before .before .before .slots-fit .ensures) ∙ c .before .before .before .before .before .before .enum-told .given .1) in
     let w = c .before .before .put-lines .ensures in
-    (planned-answer _ (lines (a .s)) _ o refl (w .0), (w .1 .0, planned-put _ (lines (a .s)) (a .out .now) _ o (w .1 .1)))
+    (planned-answer text _ (lines (a .s)) _ o refl (w .0), (w .1 .0, planned-put text _ (lines (a .s)) (a .out .now) _ o (w .1 .1)))
 
 pub plan-links-spec : {M : Type 1} → statement M
 plan-links-spec =

@@ -1,11 +1,12 @@
 -- `planner_c::reason::planner_explain_row` meets its contract. Assumes nothing.
-use mathlib.Core.Path.{ap, sym, _∙_}
+use mathlib.Core.Path.{refl, ap, sym, _∙_}
 use native.Mathlib.Omega.{arith}
 use lib.ListN.{replicate}
 use lib.Seq.{length-take-le}
 use Rattle.buffer.proofs.Putting.{put-front}
 use Rattle.planner.specs.declared.Plan.{Plan}
 use Rattle.answers.specs.Outcomes.{namedOutcome}
+use Rattle.report.specs.Text.{text}
 use Rattle.reasons.specs.Reasons.{spoken}
 use Rattle.planner_c.specs.Reasons.{rowLine, explainRow}
 use Rattle.planner_c.proofs.Leaving.{plan-told}
@@ -42,17 +43,17 @@ same-length : tie.Need-same-length
 same-length c = search needs
 
 returns : tie.Need-returns
-unfolding explainRow rowLine
+unfolding explainRow rowLine spoken
 returns c =
     let a = c .before .before .before .before .before .before .before .before .before .before .before .before .before .before .before .args in
     let plan = c .before .before .before .before .before .before .before .before .before .before .plan-named-row in
     let o = namedOutcome (a .names .now) (a .row .now) in
-    let t = plan-told (a .names .now) (a .row .now) (plan .result) (plan .ensures .0) _ (c .before .before .before .before .before .before .before .before .answer-of .ensures) in
+    let t = plan-told text o (plan .result) (plan .ensures .0) _ (c .before .before .before .before .before .before .before .before .answer-of .ensures) in
     let p = c .before .before .before .before .before .before .put-verdict in
     let v = ap (λ (x : Plan). spoken (x .verdict)) (plan .ensures .0) in
     let e = put-front (p .last .0) (replicate 160 0) _ (p .result) (p .ensures .0) (omega (arith, p .ensures .1 .0)) (p .ensures .1 .1) ∙ v in
     let l = rw (e, t) at (c .before .before .leave .ensures) in
-    (l, line-again o (a .out .now) _ _ l (omega (arith, c .before .before .leave .ok)))
+    (l, line-again text spoken (λ r. refl) o (a .out .now) _ _ l (omega (arith, c .before .before .leave .ok)))
 
 pub planner-explain-row-spec : {M : Type 1} → statement M
 planner-explain-row-spec =

@@ -2,7 +2,13 @@
 use mathlib.Core.Path.{_≡_, sym, ap, _∙_}
 use native.Mathlib.Omega.{arith}
 use Rattle.planner.specs.declared.Plan.{Plan}
-use Rattle.planner_c.proofs.TreeRooms.{plan-left, plan-short}
+use mathlib.Core.List.{_++_}
+use Rattle.tree.specs.Lines.{lines}
+use Rattle.tree.specs.Checks.{conditions}
+use Rattle.nodes.specs.Survey.{treeIn, surveyed, outcomeIn}
+use Rattle.report.specs.TreeText.{treeText}
+use Rattle.planner_c.specs.Trees.{planTree}
+use Rattle.planner_c.proofs.Leaving.{plan-left, plan-short}
 use borrow.Author.Needs.{needs}
 use Rattle.planner_c.proofs.survey.plan_where_room.Statement.{statement}
 use Rattle.planner_c.proofs.survey.plan_where_room.Tie as tie
@@ -17,7 +23,8 @@ refused-requires : tie.Need-refused-requires
 refused-requires c κs = search needs
 
 returns : tie.Need-returns
-returns c = let a = c .before .before .before .before .before .before .before .args in plan-short (a .nodes .now) (a .b) (a .sink) (c .before .before .before .plan-tree .result) (c .before .before .before .plan-tree .ensures .0) (a .out .now) _ (c .before .if1 .taken) (c .refused .ensures)
+unfolding planTree outcomeIn
+returns c = let a = c .before .before .before .before .before .before .before .args in plan-short treeText (lines (a .b) (treeIn (a .nodes .now)) (a .sink)) (surveyed (a .nodes .now) (a .sink) ++ conditions (a .b) (treeIn (a .nodes .now)) (a .sink)) (c .before .before .before .plan-tree .result) (c .before .before .before .plan-tree .ensures .0) (a .out .now) _ (c .before .if1 .taken) (c .refused .ensures)
 
 plan-tree-requires-2 : tie.Need-plan-tree-requires-2
 plan-tree-requires-2 c κs = search needs
@@ -29,11 +36,12 @@ same-length : tie.Need-same-length
 same-length c = search needs
 
 returns-2 : tie.Need-returns-2
+unfolding planTree outcomeIn
 returns-2 c =
     let a = c .before .before .before .before .before .before .before .before .before .before .before .args in
     let w = c .before .before .before .plan-tree2 in
     let z : w .result .length ≡ c .before .before .before .before .before .before .before .plan-tree .result .length = ap (λ (x : Plan). x .length) (w .ensures .0 ∙ sym (c .before .before .before .before .before .before .before .plan-tree .ensures .0)) in
-    plan-left (a .nodes .now) (a .b) (a .sink) (w .result) (w .ensures .0) (a .out .now) _ _ (omega (arith, z, c .before .before .before .before .before .if1 .left)) (c .answer-of .ensures) (w .ensures .1 .1 .0)
+    plan-left treeText (lines (a .b) (treeIn (a .nodes .now)) (a .sink)) (surveyed (a .nodes .now) (a .sink) ++ conditions (a .b) (treeIn (a .nodes .now)) (a .sink)) (w .result) (w .ensures .0) (a .out .now) _ _ (omega (arith, z, c .before .before .before .before .before .if1 .left)) (c .answer-of .ensures) (w .ensures .1 .1 .0)
 
 pub plan-where-room-spec : {M : Type 1} → statement M
 plan-where-room-spec =

@@ -3,8 +3,10 @@ use mathlib.Core.Path.{ap, _∙_}
 use Rattle.settings.specs.declared.Settings.{Settings}
 use Rattle.tree.specs.Beside.{beside}
 use Rattle.nodes.specs.Survey.{outcomeIn}
-use Rattle.surveys.specs.Plans.{answer}
-use Rattle.planner_c.proofs.TreeRooms.{plan-told, check-short}
+use Rattle.report.specs.TreeText.{treeText}
+use Rattle.planner.specs.Plans.{answer}
+use Rattle.planner_c.specs.Trees.{checkTree}
+use Rattle.planner_c.proofs.Leaving.{plan-told, told-short}
 use borrow.Author.Needs.{needs}
 use Rattle.planner_c.proofs.survey.planner_check_tree.Statement.{statement}
 use Rattle.planner_c.proofs.survey.planner_check_tree.Tie as tie
@@ -22,12 +24,13 @@ answer-of-requires : tie.Need-answer-of-requires
 answer-of-requires c κs = search needs
 
 returns : tie.Need-returns
+unfolding checkTree
 returns c =
     let a = c .before .before .before .before .before .before .args in
     let w = c .before .before .plan-tree in
-    let e = w .ensures .0 ∙ ap (λ (s : Settings). answer (outcomeIn (a .nodes .now) s (a .sink))) (c .before .before .before .before .beside .ensures) in
+    let e = w .ensures .0 ∙ ap (λ (s : Settings). answer treeText (outcomeIn (a .nodes .now) s (a .sink))) (c .before .before .before .before .beside .ensures) in
     let b = beside (a .bo) (a .so) (a .head) (a .payload) (a .ack) in
-    (plan-told (a .nodes .now) b (a .sink) (w .result) e _ (c .answer-of .ensures), check-short (a .nodes .now) b (a .sink) (w .result) e _ (c .answer-of .ensures) (w .ensures .1 .0))
+    (plan-told treeText (outcomeIn (a .nodes .now) b (a .sink)) (w .result) e _ (c .answer-of .ensures), told-short treeText (outcomeIn (a .nodes .now) b (a .sink)) (w .result) e 48576 _ (c .answer-of .ensures) (w .ensures .1 .0))
 
 pub planner-check-tree-spec : {M : Type 1} → statement M
 planner-check-tree-spec =

@@ -1,5 +1,5 @@
 -- `planner_c::survey::planner_explain_tree` meets its contract. Assumes nothing.
-use mathlib.Core.Path.{ap, sym, _∙_}
+use mathlib.Core.Path.{refl, ap, sym, _∙_}
 use native.Mathlib.Omega.{arith}
 use lib.ListN.{replicate}
 use lib.Seq.{length-take-le}
@@ -8,9 +8,11 @@ use Rattle.settings.specs.declared.Settings.{Settings}
 use Rattle.planner.specs.declared.Plan.{Plan}
 use Rattle.tree.specs.Beside.{beside}
 use Rattle.nodes.specs.Survey.{outcomeIn}
-use Rattle.surveys.specs.Plans.{answer}
-use Rattle.planner_c.specs.Trees.{treeSpoken, explainTree}
-use Rattle.planner_c.proofs.TreeRooms.{plan-told, line-again}
+use Rattle.report.specs.TreeText.{treeText}
+use Rattle.planner.specs.Plans.{answer}
+use Rattle.planner_c.specs.Trees.{checkTree, treeSpoken, explainTree}
+use Rattle.planner_c.proofs.Leaving.{plan-told}
+use Rattle.planner_c.proofs.ReasonLines.{line-again}
 use borrow.Author.Needs.{needs}
 use Rattle.planner_c.proofs.survey.planner_explain_tree.Statement.{statement}
 use Rattle.planner_c.proofs.survey.planner_explain_tree.Tie as tie
@@ -46,18 +48,18 @@ same-length : tie.Need-same-length
 same-length c = search needs
 
 returns : tie.Need-returns
-unfolding explainTree
+unfolding explainTree checkTree treeSpoken
 returns c =
     let a = c .before .before .before .before .before .before .before .before .before .before .before .before .before .before .before .args in
     let b = beside (a .bo) (a .so) (a .head) (a .payload) (a .ack) in
     let plan = c .before .before .before .before .before .before .before .before .before .before .plan-tree in
-    let q = plan .ensures .0 ∙ ap (λ (s : Settings). answer (outcomeIn (a .nodes .now) s (a .sink))) (c .before .before .before .before .before .before .before .before .before .before .before .before .beside .ensures) in
-    let t = plan-told (a .nodes .now) b (a .sink) (plan .result) q _ (c .before .before .before .before .before .before .before .before .answer-of .ensures) in
+    let q = plan .ensures .0 ∙ ap (λ (s : Settings). answer treeText (outcomeIn (a .nodes .now) s (a .sink))) (c .before .before .before .before .before .before .before .before .before .before .before .before .beside .ensures) in
+    let t = plan-told treeText (outcomeIn (a .nodes .now) b (a .sink)) (plan .result) q _ (c .before .before .before .before .before .before .before .before .answer-of .ensures) in
     let p = c .before .before .before .before .before .before .put-tree-verdict in
     let v = ap (λ (x : Plan). treeSpoken (x .verdict)) q in
     let e = put-front (p .last .0) (replicate 160 0) _ (p .result) (p .ensures .0) (omega (arith, p .ensures .1 .0)) (p .ensures .1 .1) ∙ v in
     let l = rw (e, t) at (c .before .before .leave .ensures) in
-    (l, line-again (a .nodes .now) b (a .sink) (a .out .now) _ _ l (omega (arith, c .before .before .leave .ok)))
+    (l, line-again treeText treeSpoken (λ r. refl) (outcomeIn (a .nodes .now) b (a .sink)) (a .out .now) _ _ l (omega (arith, c .before .before .leave .ok)))
 
 pub planner-explain-tree-spec : {M : Type 1} → statement M
 planner-explain-tree-spec =

@@ -4,10 +4,15 @@ use native.Mathlib.Omega.{arith}
 use lib.Seq.{sets}
 use Rattle.settings.specs.declared.Settings.{Settings}
 use Rattle.tree.specs.Beside.{beside}
-use Rattle.nodes.specs.Survey.{outcomeIn}
-use Rattle.surveys.specs.Plans.{answer, written}
+use mathlib.Core.List.{_++_}
+use Rattle.tree.specs.Lines.{lines}
+use Rattle.tree.specs.Checks.{conditions}
+use Rattle.nodes.specs.Survey.{treeIn, surveyed, outcomeIn}
+use Rattle.report.specs.TreeText.{treeText}
+use Rattle.planner.specs.Plans.{answer, written}
 use Rattle.planner_c.specs.Trees.{planTree}
-use Rattle.planner_c.proofs.TreeRooms.{plan-left, promised-left}
+use Rattle.planner_c.proofs.Leaving.{plan-left}
+use Rattle.planner_c.proofs.LawsHold.{promised-tree-left}
 use borrow.Author.Needs.{needs}
 use Rattle.planner_c.proofs.survey.planner_plan_tree.Statement.{statement}
 use Rattle.planner_c.proofs.survey.planner_plan_tree.Tie as tie
@@ -26,7 +31,7 @@ returns c =
     let a = c .before .before .before .before .before .before .before .before .args in
     let b = beside (a .bo) (a .so) (a .head) (a .payload) (a .ack) in
     let e = c .before .before .plan-where-room .ensures ∙ ap (λ (s : Settings). planTree (a .nodes .now) s (a .sink) (a .out .now)) (c .before .before .before .before .before .beside .ensures) in
-    (e, promised-left (a .nodes .now) b (a .sink) (a .out .now) _ _ e)
+    (e, promised-tree-left (a .nodes .now) b (a .sink) (a .out .now) _ _ e)
 
 plan-tree-requires : tie.Need-plan-tree-requires
 plan-tree-requires c κs = search needs
@@ -38,14 +43,15 @@ same-length-2 : tie.Need-same-length-2
 same-length-2 c = search needs
 
 returns-2 : tie.Need-returns-2
+unfolding planTree outcomeIn
 returns-2 c =
     let a = c .before .before .before .before .before .before .before .before .before .args in
     let b = beside (a .bo) (a .so) (a .head) (a .payload) (a .ack) in
     let w = c .before .before .before .plan-tree in
-    let q = w .ensures .0 ∙ ap (λ (s : Settings). answer (outcomeIn (a .nodes .now) s (a .sink))) (c .before .before .before .before .before .before .beside .ensures) in
-    let p = w .ensures .1 .1 .0 ∙ ap (λ (s : Settings). sets (a .out .now) 0 (written (outcomeIn (a .nodes .now) s (a .sink)))) (c .before .before .before .before .before .before .beside .ensures) in
-    let e = plan-left (a .nodes .now) b (a .sink) (w .result) q (a .out .now) _ _ (omega (arith, c .before .before .before .before .before .if1 .left, w .ensures .1 .0)) (c .answer-of .ensures) p in
-    (e, promised-left (a .nodes .now) b (a .sink) (a .out .now) _ _ e)
+    let q = w .ensures .0 ∙ ap (λ (s : Settings). answer treeText (outcomeIn (a .nodes .now) s (a .sink))) (c .before .before .before .before .before .before .beside .ensures) in
+    let p = w .ensures .1 .1 .0 ∙ ap (λ (s : Settings). sets (a .out .now) 0 (written treeText (outcomeIn (a .nodes .now) s (a .sink)))) (c .before .before .before .before .before .before .beside .ensures) in
+    let e = plan-left treeText (lines b (treeIn (a .nodes .now)) (a .sink)) (surveyed (a .nodes .now) (a .sink) ++ conditions b (treeIn (a .nodes .now)) (a .sink)) (w .result) q (a .out .now) _ _ (omega (arith, c .before .before .before .before .before .if1 .left, w .ensures .1 .0)) (c .answer-of .ensures) p in
+    (e, promised-tree-left (a .nodes .now) b (a .sink) (a .out .now) _ _ e)
 
 pub planner-plan-tree-spec : {M : Type 1} → statement M
 planner-plan-tree-spec =

@@ -12,7 +12,9 @@ use Rattle.tree.specs.declared.NodeLine.{NodeLine}
 use Rattle.tree.specs.Tree.{treeOf}
 use Rattle.tree.specs.Lines.{lines}
 use Rattle.surveys.proofs.Tabled.{Tabled, given, tabled}
-use Rattle.surveys.proofs.Answers.{slots-broken, slots-kept, refused-answer, refused-short, refused-put, planned-answer, planned-put}
+use Rattle.planner.proofs.Answered.{refused-answer, refused-short, refused-put, planned-answer, planned-put}
+use Rattle.report.specs.TreeText.{treeText}
+use Rattle.surveys.proofs.Answers.{slots-broken, slots-kept}
 use borrow.Author.Needs.{needs}
 use Rattle.surveys.proofs.plans.plan_checked.Statement.{statement}
 use Rattle.surveys.proofs.plans.plan_checked.Tie as tie
@@ -74,7 +76,7 @@ returns c =
     let t = treeOf (x .parents .now) (x .bursts .now) (x .rates .now) in
     let g = tables-at (c .before .before .before .before .before .before .before .before .before .before) in
     let o = slots-broken (x .b) t (x .sink) _ (ap verdict (sym (g .routers (length (x .parents .now) - 1) 1)) ∙ sym (c .before .before .before .before .routers-fit .ensures) ∙ c .before .before .verdict .given .1) in
-    (c .refused-plan .ensures ∙ refused-answer _ _ o, (refused-short _ _ (c .refused-plan .ensures), refused-put _ _ (x .out .now) o))
+    (c .refused-plan .ensures ∙ refused-answer treeText _ _ o, (refused-short 48576 _ _ (c .refused-plan .ensures), refused-put treeText _ _ (x .out .now) o))
 
 enum-told : tie.Need-enum-told
 enum-told c = search needs
@@ -120,7 +122,7 @@ returns-2 c =
     let o = slots-kept (x .b) t (x .sink) (ap verdict (sym (g .routers (length (x .parents .now) - 1) 1)) ∙ sym (c .before .before .before .before .before .before .before .before .before .before .before .before .before .before .before .routers-fit .ensures) ∙ c .before .before .before .before .before .before .before .before .before .before .before .before .before .enum-told .given .1) in
     let w = c .before .before .put-lines .ensures in
     let q = g .page _ (omega (arith, few, c .before .before .before .before .before .before .before .before .before .set-delays .kept .1 .1 .1 .1 .0)) (c .before .before .before .before .before .before .before .before .before .set-delays .ensures) in
-    (planned-answer _ (lines (x .b) t (x .sink)) _ o refl (w .0 ∙ ap (λ (l : List NodeLine). length (treeText l)) q), (w .1 .0, planned-put _ (lines (x .b) t (x .sink)) (x .out .now) _ o (w .1 .1 ∙ ap (λ (l : List NodeLine). sets (x .out .now) 0 (treeText l)) q)))
+    (planned-answer treeText _ (lines (x .b) t (x .sink)) _ o refl (w .0 ∙ ap (λ (l : List NodeLine). length (treeText l)) q), (w .1 .0, planned-put treeText _ (lines (x .b) t (x .sink)) (x .out .now) _ o (w .1 .1 ∙ ap (λ (l : List NodeLine). sets (x .out .now) 0 (treeText l)) q)))
 
 pub plan-checked-spec : {M : Type 1} → statement M
 plan-checked-spec =
