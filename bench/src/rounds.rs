@@ -6,10 +6,11 @@ use reference::Refusal;
 use std::hint::black_box;
 use std::time::Instant;
 
-/// The calls of a round. Both sides make them all and give the checksum of the answers.
+/// The calls of a round. Both sides make them all, by their place from 0 on, and give the answers.
 pub trait Calls {
-    fn ours(&mut self) -> u64;
-    fn reference(&mut self) -> u64;
+    fn count(&self) -> usize;
+    fn ours(&mut self, place: usize) -> Answer;
+    fn reference(&mut self, place: usize) -> Answer;
 }
 
 /// Seconds that the calls took, round by round.
@@ -22,8 +23,9 @@ pub struct Times {
 impl Times {
     /// Times one more round; its answers must agree.
     pub fn add_round(&mut self, calls: &mut impl Calls) -> Result<(), String> {
-        let (ours, our_sum) = timed(|| calls.ours());
-        let (reference, reference_sum) = timed(|| calls.reference());
+        let places = 0..calls.count();
+        let (ours, our_sum) = timed(|| places.clone().fold(0, |sum, place| add(sum, calls.ours(place))));
+        let (reference, reference_sum) = timed(|| places.fold(0, |sum, place| add(sum, calls.reference(place))));
         if our_sum != reference_sum {
             return Err(format!("CHECKSUMS DIFFER: ours {our_sum}, reference {reference_sum}"));
         }
@@ -42,20 +44,23 @@ impl Times {
     }
 }
 
-/// The answer that the reference's outcome comes to; the plan's text is all that the memory holds then.
+/// The answer that the reference's outcome comes to; the plan's text is all that the memory holds then. It counts as
+/// looked at, so that its writing is not left out.
 pub fn answer<P>(outcome: Result<P, Refusal>, write: impl Fn(&P, &mut Vec<u8>), text: &mut Vec<u8>) -> Answer {
     text.clear();
-    match outcome {
+    let answer = match outcome {
         Ok(plan) => {
             write(&plan, text);
             Answer { number: 0, place: 0, length: text.len() as u64 }
         }
         Err(refusal) => Answer { number: refusal.number, place: refusal.place, length: 0 },
-    }
+    };
+    black_box(text);
+    answer
 }
 
 /// A checksum of answers in their order, modulo 2^64.
-pub fn add(sum: u64, answer: Answer) -> u64 {
+fn add(sum: u64, answer: Answer) -> u64 {
     let refusal = u64::from(answer.number) << 32 | u64::from(answer.place) << 40;
     sum.wrapping_mul(31).wrapping_add(answer.length + refusal)
 }
@@ -71,16 +76,20 @@ pub fn timed(work: impl FnOnce() -> u64) -> (f64, u64) {
 mod tests {
     use super::*;
 
-    /// Calls with these checksums.
+    /// One call, with these checksums.
     struct Sums(u64, u64);
 
     impl Calls for Sums {
-        fn ours(&mut self) -> u64 {
-            self.0
+        fn count(&self) -> usize {
+            1
         }
 
-        fn reference(&mut self) -> u64 {
-            self.1
+        fn ours(&mut self, _: usize) -> Answer {
+            Answer { number: 0, place: 0, length: self.0 }
+        }
+
+        fn reference(&mut self, _: usize) -> Answer {
+            Answer { number: 0, place: 0, length: self.1 }
         }
     }
 

@@ -3,7 +3,7 @@
 mod calls;
 
 use crate::figures::median;
-use crate::rounds::{timed, Times};
+use crate::rounds::{timed, Calls, Times};
 use calls::RowCalls;
 use compare::entries::LONGEST_TEXT;
 use reference::rows::{row, Rng};
@@ -43,7 +43,7 @@ fn run_rows(title: &str, rows: Vec<Vec<u8>>, rounds: u64) -> Result<(), String> 
         times.add_round(&mut calls)?;
         formatting.push(timed(|| calls.formatting()).0);
     }
-    let (rows, plans) = (calls.rows(), calls.plans());
+    let (rows, plans) = (calls.count(), calls.plans());
     println!("{title}: {rows} rows, {plans} of them planned");
     println!("  ours       {:>9.0} rows per second", per_second(rows, &times.ours));
     println!("  reference  {:>9.0} rows per second", per_second(rows, &times.reference));

@@ -1,8 +1,8 @@
 //! The calls of a round on a list: it goes through the planner and through the reference, each time the same.
 
 use super::fixed::Fixed;
-use crate::rounds::{add, answer, Calls};
-use compare::entries::Library;
+use crate::rounds::{answer, Calls};
+use compare::entries::{Answer, Library};
 use compare::trees::entries::{TreePlanner, LONGEST_TREE_TEXT};
 use reference::{plan_tree, write_tree_plan};
 use std::hint::black_box;
@@ -24,26 +24,20 @@ impl ListCalls {
 }
 
 impl Calls for ListCalls {
-    fn ours(&mut self) -> u64 {
-        let mut sum = 0;
-        for _ in 0..CALLS {
-            let Fixed { list, beside, .. } = black_box(&mut self.fixed);
-            let answer = Library.plan_tree(Some(list), beside, Some(&mut self.buffer));
-            black_box(&mut self.buffer);
-            sum = add(sum, answer);
-        }
-        sum
+    fn count(&self) -> usize {
+        CALLS as usize
     }
 
-    fn reference(&mut self) -> u64 {
-        let mut sum = 0;
-        for _ in 0..CALLS {
-            let Fixed { list, beside, .. } = black_box(&self.fixed);
-            let answer = answer(plan_tree(list, beside), write_tree_plan, &mut self.text);
-            black_box(&mut self.text);
-            sum = add(sum, answer);
-        }
-        sum
+    fn ours(&mut self, _: usize) -> Answer {
+        let Fixed { list, beside, .. } = black_box(&mut self.fixed);
+        let answer = Library.plan_tree(Some(list), beside, Some(&mut self.buffer));
+        black_box(&mut self.buffer);
+        answer
+    }
+
+    fn reference(&mut self, _: usize) -> Answer {
+        let Fixed { list, beside, .. } = black_box(&self.fixed);
+        answer(plan_tree(list, beside), write_tree_plan, &mut self.text)
     }
 }
 

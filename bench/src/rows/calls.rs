@@ -1,8 +1,8 @@
 //! The calls of a round on rows: the same rows go through the planner, through the reference, and their plans through
 //! formatting.
 
-use crate::rounds::{add, answer, Calls};
-use compare::entries::{Library, Planner, LONGEST_TEXT};
+use crate::rounds::{answer, Calls};
+use compare::entries::{Answer, Library, Planner, LONGEST_TEXT};
 use reference::{plan_named_row, plan_row, write_plan, Plan, NAMES};
 use std::hint::black_box;
 
@@ -20,10 +20,6 @@ impl RowCalls {
         let plans = rows.iter().filter_map(|row| plan_row(row).ok()).collect();
         let names = NAMES.as_bytes().to_vec();
         RowCalls { names, rows, plans, buffer: vec![0; LONGEST_TEXT], text: Vec::with_capacity(LONGEST_TEXT) }
-    }
-
-    pub fn rows(&self) -> usize {
-        self.rows.len()
     }
 
     pub fn plans(&self) -> usize {
@@ -44,26 +40,20 @@ impl RowCalls {
 }
 
 impl Calls for RowCalls {
-    fn ours(&mut self) -> u64 {
-        let mut sum = 0;
-        for row in &mut self.rows {
-            let names = Some(black_box(&mut self.names[..]));
-            let answer = Library.plan_row(names, Some(black_box(row)), Some(&mut self.buffer));
-            black_box(&mut self.buffer);
-            sum = add(sum, answer);
-        }
-        sum
+    fn count(&self) -> usize {
+        self.rows.len()
     }
 
-    fn reference(&mut self) -> u64 {
-        let mut sum = 0;
-        for row in &self.rows {
-            let outcome = plan_named_row(black_box(&self.names), black_box(row));
-            let answer = answer(outcome, write_plan, &mut self.text);
-            black_box(&mut self.text);
-            sum = add(sum, answer);
-        }
-        sum
+    fn ours(&mut self, place: usize) -> Answer {
+        let (names, row) = (black_box(&mut self.names[..]), black_box(&mut self.rows[place][..]));
+        let answer = Library.plan_row(Some(names), Some(row), Some(&mut self.buffer));
+        black_box(&mut self.buffer);
+        answer
+    }
+
+    fn reference(&mut self, place: usize) -> Answer {
+        let outcome = plan_named_row(black_box(&self.names), black_box(&self.rows[place]));
+        answer(outcome, write_plan, &mut self.text)
     }
 }
 
@@ -76,7 +66,7 @@ mod tests {
     fn a_round_agrees() {
         let rows = ["8 4 1 2 1 0 0 1 1 19 7 0", "8 4 1 2 1 0 1 1 1 19 7 0", "x"];
         let mut calls = RowCalls::new(rows.map(|row| row.as_bytes().to_vec()).to_vec());
-        assert_eq!((calls.rows(), calls.plans()), (3, 2));
+        assert_eq!((calls.count(), calls.plans()), (3, 2));
         assert_eq!(Times::default().add_round(&mut calls), Ok(()));
     }
 }

@@ -1,13 +1,12 @@
 //! Calls of the entries on random rows, with buffers of many lengths.
 
-use crate::buffers::Buffers;
+use crate::comparison::Comparison;
 use crate::difference::{of_check, of_lent, Expected};
-use crate::entries::{Planner, LONGEST_TEXT};
+use crate::entries::{Memory, Planner, LONGEST_TEXT};
 use crate::lent::Inputs;
-use crate::reasons::Reasons;
 use crate::totals::Totals;
 use reference::plan_named_row;
-use reference::rows::{self, Rng};
+use reference::rows;
 
 /// Of so many planned rows one is called with every length from 0 on.
 const ALL_LENGTHS: u64 = 20;
@@ -16,14 +15,8 @@ const PAST: usize = 8;
 /// A length above that of the longest text.
 const LONG: usize = 5000;
 
-/// A planner under comparison.
-pub struct Calls<'a, P: Planner> {
-    planner: &'a P,
-    rng: Rng,
-    buffers: Buffers,
-    reasons: Reasons<'a, P>,
-    pub totals: Totals,
-}
+/// A planner under comparison on rows.
+pub type Calls<'a, P> = Comparison<'a, P, Totals>;
 
 /// A row under a name line on which the planner and the reference differ.
 pub struct Differing {
@@ -32,17 +25,11 @@ pub struct Differing {
     pub report: String,
 }
 
-impl<'a, P: Planner> Calls<'a, P> {
-    pub fn new(planner: &'a P, seed: u64) -> Calls<'a, P> {
-        let mut rng = Rng::new(seed);
-        let buffers = Buffers::new(&mut rng);
-        Calls { planner, rng, buffers, reasons: Reasons::new(planner, seed), totals: Totals::default() }
-    }
-
+impl<P: Planner> Calls<'_, P> {
     /// Draws a row and compares on it.
     pub fn next_row(&mut self) -> Result<(), Differing> {
-        let names = rows::names(&mut self.rng);
-        let row = rows::row(&mut self.rng);
+        let names = rows::names(&mut self.caller.rng);
+        let row = rows::row(&mut self.caller.rng);
         self.compare(&names, &row).map_err(|report| Differing { names, row, report })
     }
 
@@ -55,7 +42,7 @@ impl<'a, P: Planner> Calls<'a, P> {
         let outcome = plan_named_row(names, row);
         self.totals.rows += 1;
         self.totals.seen.note(&outcome);
-        let mut inputs = Inputs::new(&mut self.rng, names, row);
+        let mut inputs = Inputs::new(&mut self.caller.rng, names, row);
         let expected = Expected::planning(&outcome);
         self.check(&mut inputs, &expected)?;
         for room in self.draw_rooms(expected.text().len()) {
@@ -67,15 +54,15 @@ impl<'a, P: Planner> Calls<'a, P> {
     /// A call of `planner_check_row`.
     fn check(&mut self, inputs: &mut Inputs, expected: &Expected) -> Result<(), String> {
         self.totals.calls += 1;
-        let answer = self.planner.check_row(inputs.names.lend(), inputs.row.lend());
+        let answer = self.caller.planner.check_row(inputs.names.lend(), inputs.row.lend());
         of_check("planner_check_row", expected, answer)?;
         inputs.are_kept()
     }
 
     /// A call of `planner_plan_row` with a buffer of this length.
     fn plan(&mut self, inputs: &mut Inputs, expected: &Expected, room: usize) -> Result<(), String> {
-        let call = |text: Option<&mut [u8]>| self.planner.plan_row(inputs.names.lend(), inputs.row.lend(), text);
-        let found = self.buffers.lend(&mut self.rng, room, call);
+        let call = |planner: &P, text: Memory| planner.plan_row(inputs.names.lend(), inputs.row.lend(), text);
+        let found = self.caller.lend(room, call);
         self.totals.note_buffer(&found);
         of_lent("planner_plan_row", expected, &found)?;
         inputs.are_kept()
@@ -83,12 +70,13 @@ impl<'a, P: Planner> Calls<'a, P> {
 
     /// The lengths to lend for a row whose text has this length; 0 where it is refused.
     fn draw_rooms(&mut self, length: usize) -> Vec<usize> {
+        let rng = &mut self.caller.rng;
         if length == 0 {
-            vec![0, self.rng.index(300), LONGEST_TEXT]
-        } else if self.rng.one_in(ALL_LENGTHS) {
+            vec![0, rng.index(300), LONGEST_TEXT]
+        } else if rng.one_in(ALL_LENGTHS) {
             (0..=length + PAST).collect()
         } else {
-            let any = self.rng.index(length + 100);
+            let any = rng.index(length + 100);
             vec![length - 1, length, length + 1, 0, 1, any, LONGEST_TEXT, LONG]
         }
     }

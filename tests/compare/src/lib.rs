@@ -2,7 +2,9 @@
 //! requests E1 to E3.
 
 pub mod buffers;
+mod caller;
 pub mod calls;
+pub mod comparison;
 pub mod difference;
 pub mod entries;
 pub mod lent;

@@ -1,38 +1,34 @@
 //! Calls of the entries that put a refusal into words and read the words back.
 
-use crate::buffers::Buffers;
+use crate::caller::Caller;
 use crate::difference::{of_lent, of_reading, Expected};
 use crate::entries::{Memory, Planner, LONGEST_REASON};
 use crate::lent::{Inputs, Lent};
 use crate::totals::Totals;
-use reference::rows::{damaged_line, made_up_line, Rng};
+use reference::rows::{damaged_line, made_up_line};
 use reference::{read_reason, whole_line, Outcome};
 
-/// Sets the draws here apart from those of the rows, which come from the same seed.
+/// Sets the draws here apart from those of the rows or lists, which come from the same seed.
 const APART: u64 = 1 << 63;
 /// Of so many lines one is called for with every length from 0 on.
 const ALL_LENGTHS: u64 = 50;
 /// So many lengths past the line's own belong to "every length".
 const PAST: usize = 8;
-/// Damaged lines for each line of a row.
-const DAMAGED: usize = 3;
+/// Damaged lines for each line of a row or of a list.
+pub(crate) const DAMAGED: usize = 3;
 /// Refusals are given with numbers and places from 0 to this, and with larger ones, some of which have 1, 8 or 9 in
 /// their lowest 8, 16 or 31 bits.
 const MOST_SMALL: u32 = 20;
 const LARGE: [u32; 10] = [255, 256, 257, 264, 265, 65_537, 65_544, 1 << 31, (1 << 31) + 9, u32::MAX];
 
-/// The reasons of a planner under comparison.
+/// The reasons of a planner under comparison: here those of rows and refusals, in `trees::reasons` those of lists.
 pub struct Reasons<'a, P: Planner> {
-    planner: &'a P,
-    rng: Rng,
-    buffers: Buffers,
+    pub(crate) caller: Caller<'a, P>,
 }
 
 impl<'a, P: Planner> Reasons<'a, P> {
     pub fn new(planner: &'a P, seed: u64) -> Reasons<'a, P> {
-        let mut rng = Rng::new(seed ^ APART);
-        let buffers = Buffers::new(&mut rng);
-        Reasons { planner, rng, buffers }
+        Reasons { caller: Caller::new(planner, seed ^ APART) }
     }
 
     /// Compares the line of a row, what is read from it, and what is read from lines like it.
@@ -44,7 +40,7 @@ impl<'a, P: Planner> Reasons<'a, P> {
         }
         let refusal = outcome.as_ref().err();
         totals.lines.note(refusal.map(|refusal| refusal.phrase));
-        let line = Lent::new(&mut self.rng, expected.text());
+        let line = Lent::new(&mut self.caller.rng, expected.text());
         self.read(line, refusal.map(|refusal| (refusal.number, refusal.place)), totals)?;
         self.read_others(expected.text(), totals)
     }
@@ -70,7 +66,7 @@ impl<'a, P: Planner> Reasons<'a, P> {
         }
         if let Some(phrase) = whole_line(number, place) {
             totals.lines.note(Some(phrase));
-            let line = Lent::new(&mut self.rng, expected.text());
+            let line = Lent::new(&mut self.caller.rng, expected.text());
             self.read(line, Some((number, place)), totals)?;
             self.read_others(expected.text(), totals)?;
         }
@@ -85,8 +81,8 @@ impl<'a, P: Planner> Reasons<'a, P> {
         room: usize,
         totals: &mut Totals,
     ) -> Result<(), String> {
-        let call = |line: Memory| self.planner.explain_row(inputs.names.lend(), inputs.row.lend(), line);
-        let found = self.buffers.lend(&mut self.rng, room, call);
+        let call = |planner: &P, line: Memory| planner.explain_row(inputs.names.lend(), inputs.row.lend(), line);
+        let found = self.caller.lend(room, call);
         totals.note_explained(&found);
         of_lent("planner_explain_row", expected, &found)?;
         inputs.are_kept()
@@ -100,16 +96,20 @@ impl<'a, P: Planner> Reasons<'a, P> {
         room: usize,
         totals: &mut Totals,
     ) -> Result<(), String> {
-        let call = |line: Memory| self.planner.explain_refusal(number, place, line);
-        let found = self.buffers.lend(&mut self.rng, room, call);
+        let found = self.caller.lend(room, |planner, line| planner.explain_refusal(number, place, line));
         totals.note_explained(&found);
         of_lent(&format!("planner_explain_refusal of number {number}, place {place}"), expected, &found)
     }
 
-    /// A call of `planner_read_reason` with a line that reads as this refusal, or as none.
-    fn read(&self, mut line: Lent, expected: Option<(u32, u32)>, totals: &mut Totals) -> Result<(), String> {
+    /// Reads a line that reads as this refusal, or as none, and counts it.
+    fn read(&self, line: Lent, expected: Option<(u32, u32)>, totals: &mut Totals) -> Result<(), String> {
         totals.note_read();
-        let found = self.planner.read_reason(line.lend());
+        self.read_line(line, expected)
+    }
+
+    /// A call of `planner_read_reason` with a line that reads as this refusal, or as none.
+    pub(crate) fn read_line(&self, mut line: Lent, expected: Option<(u32, u32)>) -> Result<(), String> {
+        let found = self.caller.planner.read_reason(line.lend());
         of_reading(line.content(), expected, found)?;
         if line.is_kept() {
             Ok(())
@@ -121,16 +121,17 @@ impl<'a, P: Planner> Reasons<'a, P> {
     /// Reads lines like this one: damaged ones, the front of it with the rest right behind, and one made up. None of
     /// them need be a line that the planner puts.
     fn read_others(&mut self, line: &[u8], totals: &mut Totals) -> Result<(), String> {
-        let mut others = vec![Lent::front(line, self.rng.index(line.len()))];
+        let rng = &mut self.caller.rng;
+        let mut others = vec![Lent::front(line, rng.index(line.len()))];
         for _ in 0..DAMAGED {
-            let damaged = damaged_line(&mut self.rng, line);
+            let damaged = damaged_line(rng, line);
             if damaged != line {
                 totals.lines.note_damaged(read_reason(line), read_reason(&damaged));
             }
-            others.push(Lent::new(&mut self.rng, &damaged));
+            others.push(Lent::new(rng, &damaged));
         }
-        let made_up = made_up_line(&mut self.rng);
-        others.push(Lent::new(&mut self.rng, &made_up));
+        let made_up = made_up_line(rng);
+        others.push(Lent::new(rng, &made_up));
         for other in others {
             let expected = read_reason(other.content());
             self.read(other, expected, totals)?;
@@ -139,11 +140,11 @@ impl<'a, P: Planner> Reasons<'a, P> {
     }
 
     /// The lengths to lend for a line of this length.
-    fn draw_rooms(&mut self, length: usize) -> Vec<usize> {
-        if self.rng.one_in(ALL_LENGTHS) {
+    pub(crate) fn draw_rooms(&mut self, length: usize) -> Vec<usize> {
+        if self.caller.rng.one_in(ALL_LENGTHS) {
             every_room(length)
         } else {
-            let any = self.rng.index(2 * LONGEST_REASON);
+            let any = self.caller.rng.index(2 * LONGEST_REASON);
             vec![length, length - 1, 0, length + 1, any, LONGEST_REASON]
         }
     }
@@ -159,7 +160,7 @@ pub(crate) fn check_length(line: &[u8]) -> Result<(), String> {
 }
 
 /// Every length up to some more than this one, and that of the longest line.
-pub(crate) fn every_room(length: usize) -> Vec<usize> {
+fn every_room(length: usize) -> Vec<usize> {
     (0..=length + PAST).chain([LONGEST_REASON]).collect()
 }
 

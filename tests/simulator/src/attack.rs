@@ -6,7 +6,7 @@ use crate::hold::{self, Promises};
 use crate::readings::{self, Pattern, PATTERNS};
 use crate::row::Row;
 use crate::run::Outcome;
-use crate::setup::Setup;
+use crate::setup::{Reading, Setup};
 use crate::shapes::{self, Hanging};
 use crate::ties::Ties;
 use crate::tree::{Tree, Ways};
@@ -87,28 +87,27 @@ pub fn watched<T: Ways + Clone>(setup: &Setup<T>, outcome: &Outcome, seed: u64) 
 /// A drawn setup.
 pub fn drawn(row: &Row, promises: &Promises, chance: &mut Chance) -> Result<Setup, String> {
     let tree = drawn_tree(row, chance);
-    let windows =
-        [Windows::First, Windows::Last, Windows::Lines, Windows::Drawn, Windows::JustMissed, Windows::JustMissed];
-    let method = Method {
-        windows: windows[chance.index(windows.len())],
-        pattern: if chance.once_in(3) { None } else { Some(drawn_pattern(chance)) },
-        ties: drawn_ties(chance),
-    };
+    let method = drawn_method(chance);
     let mut aim = aim::aim(row, promises, &tree, method.windows, chance)?;
-    if chance.once_in(4) {
-        // All sensors in the same symbol, that of one node.
-        let symbol = aim.symbols[chance.index(aim.symbols.len())];
-        aim.symbols.fill(symbol);
-    }
+    sometimes_together(&mut aim, chance);
     let mut setup = setup(row, tree, aim, method, FRAMES_DRAWN, chance);
-    if chance.once_in(3) {
-        some_silent(&mut setup, chance);
-    }
+    sometimes_silent(&mut setup, chance);
     Ok(setup)
 }
 
+/// Windows, patterns and ties of all kinds.
+pub fn drawn_method(chance: &mut Chance) -> Method {
+    let windows =
+        [Windows::First, Windows::Last, Windows::Lines, Windows::Drawn, Windows::JustMissed, Windows::JustMissed];
+    Method {
+        windows: windows[chance.index(windows.len())],
+        pattern: if chance.once_in(3) { None } else { Some(drawn_pattern(chance)) },
+        ties: drawn_ties(chance),
+    }
+}
+
 /// What a sensor does.
-pub fn drawn_pattern(chance: &mut Chance) -> Pattern {
+fn drawn_pattern(chance: &mut Chance) -> Pattern {
     PATTERNS[chance.index(PATTERNS.len())]
 }
 
@@ -132,21 +131,43 @@ fn drawn_tree(row: &Row, chance: &mut Chance) -> Tree {
     special.unwrap_or_else(|| shapes::drawn(row, limit, chance))
 }
 
-/// About a quarter of the sensors makes nothing.
-fn some_silent(setup: &mut Setup, chance: &mut Chance) {
-    let silent: Vec<bool> = setup.tree.nodes.iter().map(|_| chance.once_in(4)).collect();
-    setup.readings.retain(|reading| !silent[reading.sensor]);
+/// Once in four times all sensors in the same symbol, that of one node.
+pub fn sometimes_together(aim: &mut Aim, chance: &mut Chance) {
+    if chance.once_in(4) {
+        let symbol = aim.symbols[chance.index(aim.symbols.len())];
+        aim.symbols.fill(symbol);
+    }
+}
+
+/// Once in three times about a quarter of the sensors makes nothing.
+pub fn sometimes_silent<T: Ways>(setup: &mut Setup<T>, chance: &mut Chance) {
+    if chance.once_in(3) {
+        let silent: Vec<bool> = setup.offsets.iter().map(|_| chance.once_in(4)).collect();
+        setup.readings.retain(|reading| !silent[reading.sensor]);
+    }
 }
 
 /// Offsets, readings of all sensors and ties for a tree.
 fn setup(row: &Row, tree: Tree, aim: Aim, method: Method, frames: u64, chance: &mut Chance) -> Setup {
-    let sensors = tree.sensors(row);
-    let share = frames / (sensors.len() as u64).max(1);
-    let count = (row.burst + 3 * row.rate + 4).min(share).max(row.burst + 1);
+    let buckets: Vec<(usize, Row)> = tree.sensors(row).into_iter().map(|sensor| (sensor, *row)).collect();
+    let readings = all_readings(&buckets, &aim, method, frames, chance);
+    Setup { tree, offsets: aim.offsets, readings, ties: method.ties }
+}
+
+/// Readings of all sensors, each within its bucket, with about so many frames at most.
+pub fn all_readings(
+    buckets: &[(usize, Row)],
+    aim: &Aim,
+    method: Method,
+    frames: u64,
+    chance: &mut Chance,
+) -> Vec<Reading> {
+    let share = frames / (buckets.len() as u64).max(1);
     let mut list = Vec::new();
-    for sensor in sensors {
+    for (sensor, row) in buckets {
+        let count = (row.burst + 3 * row.rate + 4).min(share).max(row.burst + 1);
         let pattern = method.pattern.unwrap_or_else(|| drawn_pattern(chance));
-        list.extend(readings::readings(row, sensor, pattern, aim.symbols[sensor], count, chance));
+        list.extend(readings::readings(row, *sensor, pattern, aim.symbols[*sensor], count, chance));
     }
-    Setup { tree, offsets: aim.offsets, readings: list, ties: method.ties }
+    list
 }

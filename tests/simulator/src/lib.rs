@@ -27,6 +27,7 @@ pub mod setup;
 pub mod shapes;
 pub mod stretch;
 pub mod surveys;
+pub mod tally;
 pub mod ties;
 pub mod tree;
 pub mod trial;

@@ -1,137 +1,110 @@
-//! What came of all runs: how close they came to the right figures, and how the wrong ones were
+//! What came of all runs of rows: how close they came to the right figures, and how the wrong ones were
 //! found out.
 
 use std::collections::BTreeSet;
+use std::fmt;
 
 use crate::figures::{Version, WRONG};
 use crate::hold::{self, Claim, Reach, CLAIMS};
 use crate::row::Row;
 use crate::run::Outcome;
 use crate::setup::Setup;
+use crate::tally;
 use crate::trial::Case;
 
-/// The closest run of a claim among rows of one sort.
-#[derive(Clone)]
-struct Closest {
+/// A run of a row and what it reached of a claim.
+struct Run {
     reach: Reach,
     row: Row,
-}
-
-/// How one wrong version fared.
-struct Found {
-    version: Version,
-    runs: u64,
-    rows: BTreeSet<String>,
-    /// Runs that broke each claim.
-    claims: [u64; 5],
-    /// The run that broke each claim by the largest part of the printed figure.
-    worst: [Option<Closest>; 5],
 }
 
 /// The sorts of rows in the table of close runs, by H.
 const SORTS: [(&str, u64, u64); 4] = [("H 0", 0, 0), ("H 1", 1, 1), ("H 2 to 3", 2, 3), ("H 4 to 12", 4, 12)];
 
-/// The tally of all runs.
-pub struct Tally {
-    pub runs: u64,
-    frames: u64,
-    closest: Vec<[Option<Closest>; 5]>,
-    found: Vec<Found>,
+/// The closest run of each claim among rows of each sort.
+#[derive(Default)]
+pub struct Closest([[Option<Run>; 5]; SORTS.len()]);
+
+/// How one wrong version fared.
+#[derive(Default)]
+pub struct Broken {
+    rows: BTreeSet<String>,
+    /// Runs that broke each claim.
+    claims: [u64; 5],
+    /// The run that broke each claim by the largest part of the printed figure.
+    worst: [Option<Run>; 5],
 }
+
+/// The tally of all runs.
+pub type Tally = tally::Tally<Closest, Broken>;
 
 fn place(claim: Claim) -> usize {
     CLAIMS.iter().position(|other| *other == claim).unwrap_or(0)
 }
 
 /// Keeps the reach with the larger share.
-fn keep(best: &mut Option<Closest>, reach: &Reach, row: &Row) {
+fn keep(best: &mut Option<Run>, reach: &Reach, row: &Row) {
     if best.as_ref().is_none_or(|best| reach.share() > best.reach.share()) {
-        *best = Some(Closest { reach: reach.clone(), row: *row });
-    }
-}
-
-impl Default for Tally {
-    /// No runs yet.
-    fn default() -> Tally {
-        let found = |version: &Version| Found {
-            version: *version,
-            runs: 0,
-            rows: BTreeSet::new(),
-            claims: [0; 5],
-            worst: Default::default(),
-        };
-        Tally {
-            runs: 0,
-            frames: 0,
-            closest: vec![Default::default(); SORTS.len()],
-            found: WRONG.iter().map(found).collect(),
-        }
+        *best = Some(Run { reach: reach.clone(), row: *row });
     }
 }
 
 impl Tally {
     /// Takes a run that kept the right figures.
     pub fn take(&mut self, case: &Case, setup: &Setup, outcome: &Outcome, reaches: &[Reach; 5]) -> Result<(), String> {
-        self.runs += 1;
-        self.frames += outcome.frames.len() as u64;
-        let sort = SORTS.iter().position(|(_, low, high)| (*low..=*high).contains(&case.row.h)).unwrap_or(0);
-        for reach in reaches {
-            keep(&mut self.closest[sort][place(reach.claim)], reach, &case.row);
-        }
+        self.count(outcome);
+        self.closest.take(&case.row, reaches);
         for (version, promises) in &case.wrong {
             let reaches = hold::hold(&case.row, promises, &setup.tree, outcome)?;
-            for found in self.found.iter_mut().filter(|found| found.version == *version) {
-                found.take(&case.row, &reaches);
+            self.take_wrong(*version, &case.row, &reaches);
+        }
+        Ok(())
+    }
+}
+
+impl Closest {
+    fn take(&mut self, row: &Row, reaches: &[Reach; 5]) {
+        let sort = SORTS.iter().position(|(_, low, high)| (*low..=*high).contains(&row.h)).unwrap_or(0);
+        for reach in reaches {
+            keep(&mut self.0[sort][place(reach.claim)], reach, row);
+        }
+    }
+}
+
+impl fmt::Display for Closest {
+    fn fmt(&self, out: &mut fmt::Formatter) -> fmt::Result {
+        for (runs, (name, _, _)) in self.0.iter().zip(SORTS) {
+            for Run { reach, row } in runs.iter().flatten().filter(|run| run.reach.reached > 0) {
+                writeln!(out, "  {name}: {:.6} {reach}; row {row}", reach.share())?;
             }
         }
         Ok(())
     }
-
-    /// The wrong versions that no run found out.
-    pub fn survivors(&self) -> Vec<Version> {
-        self.found.iter().filter(|found| found.runs == 0).map(|found| found.version).collect()
-    }
-
-    /// The report.
-    pub fn text(&self) -> String {
-        let mut text = format!("{} runs, {} frames, right figures kept\n", self.runs, self.frames);
-        text += "closest to the printed figures (reached / printed)\n";
-        for (best, (name, _, _)) in self.closest.iter().zip(SORTS) {
-            for Closest { reach, row } in best.iter().flatten().filter(|best| best.reach.reached > 0) {
-                text += &format!("  {name}: {:.6} {reach}; row {row}\n", reach.share());
-            }
-        }
-        text += "wrong figures\n";
-        for found in &self.found {
-            text += &found.text();
-        }
-        text
-    }
 }
 
-impl Found {
-    fn take(&mut self, row: &Row, reaches: &[Reach; 5]) {
-        let mut broken = false;
+impl tally::Broken for Broken {
+    type Version = Version;
+    const WRONG: &'static [Version] = &WRONG;
+    type Of = Row;
+
+    fn take(&mut self, row: &Row, reaches: &[Reach]) {
+        self.rows.insert(row.to_string());
         for reach in reaches.iter().filter(|reach| reach.is_over()) {
-            broken = true;
             let place = place(reach.claim);
             self.claims[place] += 1;
             keep(&mut self.worst[place], reach, row);
         }
-        if broken {
-            self.runs += 1;
-            self.rows.insert(row.to_string());
-        }
     }
+}
 
-    fn text(&self) -> String {
+impl fmt::Display for Broken {
+    fn fmt(&self, out: &mut fmt::Formatter) -> fmt::Result {
         let [ends, up, down, delay, stretch] = self.claims;
-        let claims = format!("queue E {ends}, U {up}, D {down}, delay {delay}, stretch {stretch}");
-        let (version, runs, rows) = (self.version, self.runs, self.rows.len());
-        let mut text = format!("  {version:?}: broken by {runs} runs on {rows} rows ({claims})\n");
-        for Closest { reach, row } in self.worst.iter().flatten() {
-            text += &format!("    {reach}; row {row}\n");
+        write!(out, "{} rows ", self.rows.len())?;
+        writeln!(out, "(queue E {ends}, U {up}, D {down}, delay {delay}, stretch {stretch})")?;
+        for Run { reach, row } in self.worst.iter().flatten() {
+            writeln!(out, "    {reach}; row {row}")?;
         }
-        text
+        Ok(())
     }
 }

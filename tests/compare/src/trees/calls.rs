@@ -1,14 +1,13 @@
 //! Calls of the entries for trees on drawn lists, with buffers of many lengths.
 
 use super::entries::{TreePlanner, LONGEST_TREE_TEXT};
-use super::reasons::TreeReasons;
 use super::totals::TreeTotals;
-use crate::buffers::Buffers;
+use crate::comparison::Comparison;
 use crate::difference::{of_check, of_lent, Expected, TOO_SHORT};
-use crate::entries::{Answer, Memory, LONGEST_TEXT};
+use crate::entries::{Answer, LONGEST_TEXT};
 use crate::lent::Lent;
 use reference::lists::{self, Drawn};
-use reference::rows::{self, Answered, Rng};
+use reference::rows::{self, Answered};
 use reference::{plan_tree, Beside, NAMES};
 
 /// Of so many planned lists with short texts one is called with every length from 0 on.
@@ -23,14 +22,8 @@ const LONG: usize = 50_000;
 /// Of so many lists one is lent in part, with the rest right behind it.
 const IN_PART: u64 = 20;
 
-/// A planner under comparison.
-pub struct TreeCalls<'a, P: TreePlanner> {
-    planner: &'a P,
-    rng: Rng,
-    buffers: Buffers,
-    reasons: TreeReasons<'a, P>,
-    pub totals: TreeTotals,
-}
+/// A planner under comparison on lists.
+pub type TreeCalls<'a, P> = Comparison<'a, P, TreeTotals>;
 
 /// A list on which the planner and the reference differ; or a row and its list on which the planner's answers do.
 pub struct Differing {
@@ -40,19 +33,13 @@ pub struct Differing {
     pub report: String,
 }
 
-impl<'a, P: TreePlanner> TreeCalls<'a, P> {
-    pub fn new(planner: &'a P, seed: u64) -> TreeCalls<'a, P> {
-        let mut rng = Rng::new(seed);
-        let buffers = Buffers::new(&mut rng);
-        TreeCalls { planner, rng, buffers, reasons: TreeReasons::new(planner, seed), totals: TreeTotals::default() }
-    }
-
+impl<P: TreePlanner> TreeCalls<'_, P> {
     /// Draws a list and compares on it.
     pub fn next_list(&mut self) -> Result<(), Differing> {
-        let Drawn { list, beside } = lists::draw(&mut self.rng);
-        let in_part = !list.is_empty() && self.rng.one_in(IN_PART);
-        let nodes =
-            if in_part { Lent::front(&list, self.rng.index(list.len())) } else { Lent::new(&mut self.rng, &list) };
+        let rng = &mut self.caller.rng;
+        let Drawn { list, beside } = lists::draw(rng);
+        let in_part = !list.is_empty() && rng.one_in(IN_PART);
+        let nodes = if in_part { Lent::front(&list, rng.index(list.len())) } else { Lent::new(rng, &list) };
         let list = nodes.content().to_vec();
         self.compare(nodes, &beside).map_err(|report| Differing { row: None, list, beside, report })
     }
@@ -68,21 +55,20 @@ impl<'a, P: TreePlanner> TreeCalls<'a, P> {
         for room in self.draw_rooms(expected.text().len()) {
             self.plan(&mut nodes, beside, &expected, room)?;
         }
-        self.reasons.compare(&mut nodes, beside, &outcome, &mut self.totals)
+        self.reasons.compare_list(&mut nodes, beside, &outcome, &mut self.totals)
     }
 
     /// A call of `planner_check_tree`.
     fn check(&mut self, nodes: &mut Lent, beside: &Beside, expected: &Expected) -> Result<(), String> {
         self.totals.calls += 1;
-        let answer = self.planner.check_tree(nodes.lend(), beside);
+        let answer = self.caller.planner.check_tree(nodes.lend(), beside);
         of_check("planner_check_tree", expected, answer)?;
         is_kept(nodes)
     }
 
     /// A call of `planner_plan_tree` with a buffer of this length.
     fn plan(&mut self, nodes: &mut Lent, beside: &Beside, expected: &Expected, room: usize) -> Result<(), String> {
-        let call = |text: Memory| self.planner.plan_tree(nodes.lend(), beside, text);
-        let found = self.buffers.lend(&mut self.rng, room, call);
+        let found = self.caller.lend(room, |planner, text| planner.plan_tree(nodes.lend(), beside, text));
         self.totals.note_buffer(&found);
         of_lent("planner_plan_tree", expected, &found)?;
         is_kept(nodes)
@@ -90,15 +76,16 @@ impl<'a, P: TreePlanner> TreeCalls<'a, P> {
 
     /// The lengths to lend for a list whose text has this length; 0 where it is refused.
     fn draw_rooms(&mut self, length: usize) -> Vec<usize> {
+        let rng = &mut self.caller.rng;
         if length == 0 {
-            return vec![0, self.rng.index(300), LONGEST_TREE_TEXT];
+            return vec![0, rng.index(300), LONGEST_TREE_TEXT];
         }
-        if length <= SHORT && self.rng.one_in(ALL_LENGTHS) {
+        if length <= SHORT && rng.one_in(ALL_LENGTHS) {
             return (0..=length + AROUND).collect();
         }
-        let any = self.rng.index(length + 100);
+        let any = rng.index(length + 100);
         let mut rooms = vec![length - 1, length, length + 1, 0, any, LONGEST_TREE_TEXT - 1, LONGEST_TREE_TEXT, LONG];
-        if self.rng.one_in(ALL_AROUND) {
+        if rng.one_in(ALL_AROUND) {
             rooms.extend(length - AROUND..=length + AROUND);
         }
         rooms
@@ -107,11 +94,11 @@ impl<'a, P: TreePlanner> TreeCalls<'a, P> {
     /// Draws a row whose full tree can be listed, and holds the planner's answer to that list against the planner's
     /// answer to the row. The reference has no part in it.
     pub fn next_row(&mut self) -> Result<(), Differing> {
-        let listed = rows::listed(&mut self.rng);
+        let listed = rows::listed(&mut self.caller.rng);
         let (mut names, mut row, mut list) = (NAMES.as_bytes().to_vec(), listed.row.clone(), listed.list.clone());
         let (mut row_text, mut tree_text) = (vec![0; LONGEST_TEXT], vec![0; LONGEST_TREE_TEXT]);
-        let of_row = self.planner.plan_row(Some(&mut names), Some(&mut row), Some(&mut row_text));
-        let of_tree = self.planner.plan_tree(Some(&mut list), &listed.beside, Some(&mut tree_text));
+        let of_row = self.caller.planner.plan_row(Some(&mut names), Some(&mut row), Some(&mut row_text));
+        let of_tree = self.caller.planner.plan_tree(Some(&mut list), &listed.beside, Some(&mut tree_text));
         self.totals.note_row(of_row.number);
         let compared = answered(of_row, &row_text)
             .and_then(|of_row| listed.compare(of_row, answered(of_tree, &tree_text)?))

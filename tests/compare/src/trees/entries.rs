@@ -62,23 +62,23 @@ mod library {
         }
 
         fn plan_tree(&self, nodes: Memory, beside: &Beside, text: Memory) -> Answer {
-            let (nodes, length) = pointer(nodes);
-            let (text, room) = pointer(text);
-            let Beside { beacon_order, superframe_order, head, data, ack, sink } = *beside;
-            // SAFETY: as above; the two are different mutable slices, so the text does not overlap the list.
-            unsafe {
-                planner_plan_tree(nodes, length, beacon_order, superframe_order, head, data, ack, sink, text, room)
-            }
+            lend(planner_plan_tree, nodes, beside, text)
         }
 
         fn explain_tree(&self, nodes: Memory, beside: &Beside, line: Memory) -> Answer {
-            let (nodes, length) = pointer(nodes);
-            let (line, room) = pointer(line);
-            let Beside { beacon_order, superframe_order, head, data, ack, sink } = *beside;
-            // SAFETY: as above.
-            unsafe {
-                planner_explain_tree(nodes, length, beacon_order, superframe_order, head, data, ack, sink, line, room)
-            }
+            lend(planner_explain_tree, nodes, beside, line)
         }
+    }
+
+    /// The form of the two entries that put something into a buffer.
+    type Putting = unsafe extern "C" fn(*const u8, usize, u32, u32, u32, u32, u32, u32, *mut u8, usize) -> Answer;
+
+    /// Calls one of the two with a list and a buffer.
+    fn lend(entry: Putting, nodes: Memory, beside: &Beside, buffer: Memory) -> Answer {
+        let (nodes, length) = pointer(nodes);
+        let (buffer, room) = pointer(buffer);
+        let Beside { beacon_order, superframe_order, head, data, ack, sink } = *beside;
+        // SAFETY: as above; the two are different mutable slices, so the buffer does not overlap the list.
+        unsafe { entry(nodes, length, beacon_order, superframe_order, head, data, ack, sink, buffer, room) }
     }
 }

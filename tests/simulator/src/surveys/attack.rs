@@ -5,14 +5,12 @@ use super::case::{Case, CLAIMS};
 use super::survey::Survey;
 use super::tally::Tally;
 use crate::aim::{self, Aim};
-use crate::attack::{self, drawn_pattern, drawn_ties, Method, ON_EVERY_TREE, ON_ONE_TREE};
+use crate::attack::{self, Method, ON_EVERY_TREE, ON_ONE_TREE};
 use crate::chance::Chance;
 use crate::change;
 use crate::hold::Reach;
-use crate::readings;
 use crate::run::Outcome;
 use crate::setup::Setup;
-use crate::windows::Windows;
 
 /// About the most frames of a directed run, and of a drawn one.
 const FRAMES: u64 = 6_000;
@@ -100,37 +98,18 @@ fn aimed(case: &Case, method: Method, chance: &mut Chance) -> Result<Aim, String
 /// A drawn setup: windows, patterns and ties of all kinds, often with all sensors in the same symbol or
 /// some of them silent.
 pub fn drawn_setup(case: &Case, chance: &mut Chance) -> Result<Setup<Survey>, String> {
-    let windows =
-        [Windows::First, Windows::Last, Windows::Lines, Windows::Drawn, Windows::JustMissed, Windows::JustMissed];
-    let method = Method {
-        windows: windows[chance.index(windows.len())],
-        pattern: if chance.once_in(3) { None } else { Some(drawn_pattern(chance)) },
-        ties: drawn_ties(chance),
-    };
+    let method = attack::drawn_method(chance);
     let mut aim = aimed(case, method, chance)?;
-    if chance.once_in(4) {
-        let symbol = aim.symbols[chance.index(aim.symbols.len())];
-        aim.symbols.fill(symbol);
-    }
+    attack::sometimes_together(&mut aim, chance);
     let mut setup = setup(case, aim, method, FRAMES_DRAWN, chance);
-    if chance.once_in(3) {
-        let silent: Vec<bool> = case.survey.nodes.iter().map(|_| chance.once_in(4)).collect();
-        setup.readings.retain(|reading| !silent[reading.sensor]);
-    }
+    attack::sometimes_silent(&mut setup, chance);
     Ok(setup)
 }
 
 /// Offsets, readings of all sensors, each within its own bucket, and ties.
 fn setup(case: &Case, aim: Aim, method: Method, frames: u64, chance: &mut Chance) -> Setup<Survey> {
     let survey = &case.survey;
-    let sensors = survey.sensors();
-    let share = frames / (sensors.len() as u64).max(1);
-    let mut list = Vec::new();
-    for sensor in sensors {
-        let row = survey.bucket(sensor);
-        let count = (row.burst + 3 * row.rate + 4).min(share).max(row.burst + 1);
-        let pattern = method.pattern.unwrap_or_else(|| drawn_pattern(chance));
-        list.extend(readings::readings(&row, sensor, pattern, aim.symbols[sensor], count, chance));
-    }
-    Setup { tree: survey.clone(), offsets: aim.offsets, readings: list, ties: method.ties }
+    let buckets: Vec<_> = survey.sensors().into_iter().map(|sensor| (sensor, survey.bucket(sensor))).collect();
+    let readings = attack::all_readings(&buckets, &aim, method, frames, chance);
+    Setup { tree: survey.clone(), offsets: aim.offsets, readings, ties: method.ties }
 }

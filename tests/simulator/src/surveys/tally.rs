@@ -3,14 +3,20 @@
 
 use super::case::{Case, CLAIMS};
 use super::figures::{Version, WRONG};
+use super::survey::Survey;
 use crate::hold::Reach;
 use crate::run::Outcome;
+use crate::tally;
 use std::collections::BTreeSet;
+use std::fmt;
+
+/// The closest reach of each claim, and its tree.
+#[derive(Default)]
+pub struct Closest([Option<(Reach, String)>; 7]);
 
 /// How one wrong version fared.
-struct Found {
-    version: Version,
-    runs: u64,
+#[derive(Default)]
+pub struct Broken {
     trees: BTreeSet<usize>,
     /// Runs that broke each claim.
     claims: [u64; 7],
@@ -19,83 +25,60 @@ struct Found {
 }
 
 /// The tally of all runs.
-pub struct Tally {
-    pub runs: u64,
-    frames: u64,
-    closest: [Option<(Reach, String)>; 7],
-    found: Vec<Found>,
-}
-
-impl Default for Tally {
-    /// No runs yet.
-    fn default() -> Tally {
-        let found = |version: &Version| Found {
-            version: *version,
-            runs: 0,
-            trees: BTreeSet::new(),
-            claims: [0; 7],
-            first: None,
-        };
-        Tally { runs: 0, frames: 0, closest: Default::default(), found: WRONG.iter().map(found).collect() }
-    }
-}
+pub type Tally = tally::Tally<Closest, Broken>;
 
 impl Tally {
     /// Takes a run of the tree with this number that kept the right figures.
     pub fn take(&mut self, number: usize, case: &Case, outcome: &Outcome, reaches: &[Reach; 7]) -> Result<(), String> {
-        self.runs += 1;
-        self.frames += outcome.frames.len() as u64;
-        for (closest, reach) in self.closest.iter_mut().zip(reaches) {
-            if closest.as_ref().is_none_or(|(best, _)| reach.share() > best.share()) {
-                let tree = format!("{} nodes, settings {}", case.survey.nodes.len(), case.survey.settings());
-                *closest = Some((reach.clone(), tree));
-            }
-        }
+        self.count(outcome);
+        self.closest.take(&case.survey, reaches);
         for (version, promises) in &case.wrong {
-            let reaches = case.hold(promises, outcome)?;
-            for found in self.found.iter_mut().filter(|found| found.version == *version) {
-                found.take(number, &reaches);
-            }
+            self.take_wrong(*version, &number, &case.hold(promises, outcome)?);
         }
         Ok(())
     }
+}
 
-    /// The wrong versions that no run found out.
-    pub fn survivors(&self) -> Vec<Version> {
-        self.found.iter().filter(|found| found.runs == 0).map(|found| found.version).collect()
-    }
-
-    /// The report.
-    pub fn text(&self) -> String {
-        let mut text = format!("{} runs, {} frames, right figures kept\n", self.runs, self.frames);
-        text += "closest to the printed figures (reached / printed)\n";
-        for (reach, tree) in self.closest.iter().flatten().filter(|(reach, _)| reach.reached > 0) {
-            text += &format!("  {:.6} {reach}; {tree}\n", reach.share());
+impl Closest {
+    fn take(&mut self, survey: &Survey, reaches: &[Reach; 7]) {
+        for (closest, reach) in self.0.iter_mut().zip(reaches) {
+            if closest.as_ref().is_none_or(|(best, _)| reach.share() > best.share()) {
+                let tree = format!("{} nodes, settings {}", survey.nodes.len(), survey.settings());
+                *closest = Some((reach.clone(), tree));
+            }
         }
-        text += "wrong figures\n";
-        for found in &self.found {
-            text += &found.text();
-        }
-        text
     }
 }
 
-impl Found {
-    fn take(&mut self, tree: usize, reaches: &[Reach; 7]) {
-        let over: Vec<usize> = (0..reaches.len()).filter(|claim| reaches[*claim].is_over()).collect();
-        if let Some(first) = over.first() {
-            self.first.get_or_insert_with(|| reaches[*first].clone());
-            self.runs += 1;
-            self.trees.insert(tree);
+impl fmt::Display for Closest {
+    fn fmt(&self, out: &mut fmt::Formatter) -> fmt::Result {
+        for (reach, tree) in self.0.iter().flatten().filter(|(reach, _)| reach.reached > 0) {
+            writeln!(out, "  {:.6} {reach}; {tree}", reach.share())?;
         }
-        over.into_iter().for_each(|claim| self.claims[claim] += 1);
+        Ok(())
     }
+}
 
-    fn text(&self) -> String {
+impl tally::Broken for Broken {
+    type Version = Version;
+    const WRONG: &'static [Version] = &WRONG;
+    /// The tree's number.
+    type Of = usize;
+
+    fn take(&mut self, tree: &usize, reaches: &[Reach]) {
+        self.trees.insert(*tree);
+        for (runs, reach) in self.claims.iter_mut().zip(reaches).filter(|(_, reach)| reach.is_over()) {
+            *runs += 1;
+            self.first.get_or_insert_with(|| reach.clone());
+        }
+    }
+}
+
+impl fmt::Display for Broken {
+    fn fmt(&self, out: &mut fmt::Formatter) -> fmt::Result {
         let claims = CLAIMS.iter().zip(self.claims).filter(|(_, runs)| *runs > 0);
         let claims: Vec<String> = claims.map(|(claim, runs)| format!("{claim:?} {runs}")).collect();
-        let (version, runs, trees) = (self.version, self.runs, self.trees.len());
-        let first = self.first.as_ref().map_or(String::new(), |reach| format!("    {reach}\n"));
-        format!("  {version:?}: broken by {runs} runs on {trees} trees ({})\n{first}", claims.join(", "))
+        writeln!(out, "{} trees ({})", self.trees.len(), claims.join(", "))?;
+        self.first.iter().try_for_each(|reach| writeln!(out, "    {reach}"))
     }
 }
