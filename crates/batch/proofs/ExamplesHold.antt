@@ -4,13 +4,14 @@ use Rattle.lines.specs.Text.{ended, lines}
 use Rattle.answers.proofs.Computing.{answered}
 use Rattle.report.specs.Text.{header, numbers, lineText, text, refusalText}
 use Rattle.reasons.proofs.Computing.{worded}
+use Rattle.planner.specs.Plans as plans
 use Rattle.batch.specs.Output.{printed, rowsPrinted, tooLong, inputConditions, output}
 use Rattle.batch.specs.Examples as examples
 use Rattle.batch.specs.Examples.{ours, explained, ExamplesHold, InputsHold, ReasonsHold}
 
 -- to unfold `outputs` is to unfold all that an output is computed with
 outputs : Type 0
-unfolding answered worded lines ended header numbers lineText text refusalText printed rowsPrinted tooLong inputConditions output
+unfolding answered worded lines ended header numbers lineText text refusalText plans.printed printed rowsPrinted tooLong inputConditions output
 outputs = Unit
 
 pub inputs-hold : InputsHold

@@ -14,19 +14,17 @@ use Rattle.refusals.specs.declared.Refusal.{Refusal}
 use Rattle.refusals.specs.declared.Refusal.the-variants.{Names, InputTooLong}
 use Rattle.refusals.specs.declared.Verdict.the-variants.{Kept, Broken}
 use Rattle.refusals.specs.Conditions.{condition, firstBroken}
-use Rattle.refusals.proofs.Answering.{verdict, broken-kept, answer-broken, answer-kept}
+use Rattle.refusals.proofs.Answering.{verdict, answer-broken, answer-kept}
 use Rattle.settings.specs.Columns.{table}
 use Rattle.row.specs.Names.{isNameLine, nameLine}
 use Rattle.row.specs.Rows.{named}
 use Rattle.refusals.specs.Outcome.{Planned, Refused}
 use Rattle.balanced.specs.Outcome.{RowOutcome}
-use Rattle.planner.specs.declared.Plan.{Plan}
-use Rattle.planner.specs.Plans.{planned, refused, answer, written}
-use Rattle.planner.proofs.Answered.{answered-length, answer-refused}
-use Rattle.report.specs.Text.{text, refusalText}
+use Rattle.planner.specs.Plans.{planned, refused, answer}
+use Rattle.report.specs.Text.{text}
 use Rattle.reasons.specs.Reasons.{spoken}
 use Rattle.batch.specs.declared.Style.{Style}
-use Rattle.batch.specs.declared.Style.the-variants.{Plans, Reasons}
+use Rattle.batch.specs.declared.Style.the-variants.{Reasons}
 use Rattle.batch.specs.Output.{printed, refusalPrinted, tooLong, inputConditions}
 use Rattle.batch.specs.Steps.{rowsFrom, Step, behind, opening}
 
@@ -79,32 +77,6 @@ module _ (s : Style) (input : List ℕ) where
   unfolding opening
   opening-named v =
       ap₂ opened (answer-kept _ [] (inputConditions input) v) (answer-kept _ (behind (lineAt input 0)) (inputConditions input) v)
-
--- the text of a row, by the plan that it was answered
-module _ (o : RowOutcome) (plan : Plan) (e : plan ≡ answer text o) where
-  told : plan .verdict ≡ answer text o .verdict
-  told = ap (λ (p : Plan). p .verdict) e
-
-  -- refused: nothing was put, and the refusal is
-  pub row-refused : (r : Refusal) → plan .verdict ≡ Broken r → refusalText r ≡ printed Plans o
-  unfolding printed
-  row-refused r v = rw (answer-refused text o r (sym told ∙ v)) refl
-
-  pub row-none : (r : Refusal) → plan .verdict ≡ Broken r → written text o ≡ []
-  unfolding written
-  row-none r v = rw (answer-refused text o r (sym told ∙ v)) refl
-
-  -- planned: the text was put
-  kept-printed : (x : RowOutcome) → answer text x .verdict ≡ Kept → written text x ≡ printed Plans x
-  unfolding answer planned refused written printed
-  kept-printed (Planned p) v = refl
-  kept-printed (Refused r) v = broken-kept r v
-
-  pub row-planned : plan .verdict ≡ Kept → written text o ≡ printed Plans o
-  row-planned v = kept-printed o (sym told ∙ v)
-
-  pub row-length : plan .length ≡ length (written text o)
-  row-length = ap (λ (p : Plan). p .length) e ∙ answered-length text o
 
 -- a row's line, by its verdict
 pub spoken-verdict : (o : RowOutcome) → ended (spoken (answer text o .verdict) ∷ []) ≡ printed Reasons o

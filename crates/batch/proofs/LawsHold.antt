@@ -18,6 +18,7 @@ use Rattle.refusals.proofs.Answering.{verdict, answer-broken, answer-kept}
 use Rattle.refusals.specs.Conditions.{firstBroken}
 use Rattle.report.specs.Text.{text, refusalText}
 use Rattle.planner.specs.Plans.{answer}
+use Rattle.planner.specs.Plans as plans
 use Rattle.answers.specs.Outcomes.{rowOutcome}
 use Rattle.reasons.specs.Reasons.{spoken}
 use Rattle.reasons.proofs.Computing.{worded}
@@ -37,7 +38,7 @@ unfolding output inputConditions tooLong firstBroken
 long-printed s input h = rw (lt-ltb 65536 (length input) h)
 
 pub long-inputs : LongInputs
-unfolding printed worded ended joined refusalText
+unfolding plans.printed printed worded ended joined refusalText
 long-inputs input h = (long-printed Plans input h, long-printed Reasons input h)
 
 pub other-inputs : OtherInputs

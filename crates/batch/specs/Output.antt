@@ -12,7 +12,8 @@ use Rattle.row.specs.Rows.{named}
 use Rattle.refusals.specs.Outcome.{Planned, Refused}
 use Rattle.balanced.specs.Outcome.{RowOutcome}
 use Rattle.answers.specs.Outcomes.{rowOutcome}
-use Rattle.report.specs.Text.{text, refusalText}
+use Rattle.report.specs.Text.{text}
+use Rattle.planner.specs.Plans as plans
 use Rattle.reasons.specs.Reasons.{spoken}
 use Rattle.batch.specs.declared.Style.{Style}
 use Rattle.batch.specs.declared.Style.the-variants.{Plans, Reasons}
@@ -20,8 +21,7 @@ use Rattle.batch.specs.declared.Style.the-variants.{Plans, Reasons}
 -- what is printed for a row. Plans: its plan; "A refused row prints `R`, number and place instead". Reasons (document 02, E1): one line
 -- of English, that it is planned or why it is refused.
 unfoldable pub printed : Style → RowOutcome → List ℕ
-printed Plans (Planned p) = text p
-printed Plans (Refused r) = refusalText r
+printed Plans o = plans.printed text o
 printed Reasons (Planned p) = ended (spoken Kept ∷ [])
 printed Reasons (Refused r) = ended (spoken (Broken r) ∷ [])
 

@@ -1,6 +1,6 @@
 -- What is answered and put for an outcome, whatever the sort of plan. Assumes nothing.
 use mathlib.Core.Path.{_≡_, refl, sym, ap, _∙_}
-use mathlib.Core.List.{List}
+use mathlib.Core.List.{List, []}
 use Prim.Native.Nat.{ℕ, _≤_}
 use native.Mathlib.Omega.{arith}
 use lib.ListN.{length}
@@ -11,8 +11,9 @@ use Rattle.refusals.specs.declared.Verdict.{Verdict}
 use Rattle.refusals.specs.declared.Verdict.the-variants.{Kept, Broken}
 use Rattle.refusals.specs.Outcome.{Outcome, Planned, Refused}
 use Rattle.refusals.proofs.Answering.{broken-kept}
+use Rattle.report.specs.Text.{refusalText}
 use Rattle.planner.specs.declared.Plan.{Plan}
-use Rattle.planner.specs.Plans.{planned, refused, answer, written}
+use Rattle.planner.specs.Plans.{planned, refused, answer, written, printed}
 
 pub refused-short : (most : ℕ) (x : Plan) (r : Refusal) → x ≡ refused r → x .length ≤ most
 unfolding refused
@@ -57,3 +58,18 @@ module _ {P : Type 0} (text : P → List ℕ) where
   unfolding answer planned refused
   answer-planned (Planned p) v = (p, refl)
   answer-planned (Refused x) v = broken-kept x v
+
+  -- what is printed, by the plan that was answered
+  module _ (o : Outcome P) (plan : Plan) (e : plan ≡ answer text o) where
+    -- refused: nothing was put, and the refusal is printed
+    pub refused-printed : (r : Refusal) → plan .verdict ≡ Broken r → (refusalText r ≡ printed text o) × (written text o ≡ [])
+    unfolding printed written
+    refused-printed r v = let q = answer-refused o r (sym (ap (λ (p : Plan). p .verdict) e) ∙ v) in (rw q refl, rw q refl)
+
+    -- planned: all that is printed was put
+    pub planned-printed : plan .verdict ≡ Kept → (plan .length ≡ length (printed text o)) × (written text o ≡ printed text o)
+    unfolding printed written
+    planned-printed v =
+        let q = answer-planned o (sym (ap (λ (p : Plan). p .verdict) e) ∙ v) in
+        let same : written text o ≡ printed text o = rw (q .1) refl in
+        (ap (λ (p : Plan). p .length) e ∙ answered-length o ∙ ap length same, same)

@@ -3,7 +3,8 @@ use mathlib.Core.Path.{_≡_, refl, sym, _∙_}
 use Prim.Native.Nat.{ℕ}
 use native.Mathlib.Omega.{arith}
 use lib.ListN.{take}
-use Rattle.lines.specs.Text.{ended}
+use Rattle.lines.specs.Text.{joined, ended}
+use Rattle.balanced.specs.Lines.{letter}
 use Rattle.answers.proofs.Computing.{answered}
 use Rattle.report.specs.Text as report
 use Rattle.planner.specs.Plans as planner
@@ -12,8 +13,12 @@ use Rattle.reasons.specs.Reading.{readReason}
 use Rattle.reasons.proofs.Computing.{worded, taken-in}
 use Rattle.planner_c.specs.Calls.{toldRefusal, told, filled, room, roomed, leaves}
 use Rattle.planner_c.specs.Entries.{planRow, checkRow}
+use Rattle.report.specs.TreeText.{treeHeader, nodeText, treeText}
+use Rattle.nodes.proofs.Computing.{lists}
+use Rattle.planner_c.specs.Trees.{planTree, checkTree, treeSpoken, explainTree}
+use Rattle.planner_c.specs.TreeBroken.{pairList}
 use Rattle.planner_c.specs.Reasons.{lineLeft, rowLine, explainRow, plain, lineAmong, explainRefusal, numbered}
-use Rattle.planner_c.specs.Examples.{lent, text, call, planned, refused, Examples, line, explained, Spoken, OtherPlaceBreaks}
+use Rattle.planner_c.specs.Examples.{lent, text, call, planned, refused, Examples, line, explained, Spoken, OtherPlaceBreaks, treePlan, treeCall, treeExplained, TreeExamples}
 
 pub examples-hold : Examples
 unfolding answered worded ended report.header report.numbers report.lineText report.text toldRefusal told filled room roomed leaves planRow checkRow lent text call planned refused
@@ -59,3 +64,17 @@ other-place-breaks again =
     let e = sym line-read ∙ again (omega arith) (omega arith) in
     let z : _≡_ {A = ℕ} 0 1 = cc in
     omega arith
+
+pub tree-examples-hold : TreeExamples
+unfolding lists worded joined ended letter report.numbers treeHeader nodeText treeText toldRefusal told filled room roomed leaves planTree checkTree planner.planned planner.refused planner.answer lineLeft treeSpoken explainTree lent pairList treePlan treeCall treeExplained
+tree-examples-hold = record {
+  check = refl;
+  exact = refl;
+  oneMore = refl;
+  oneLess = refl;
+  three = refl;
+  tenBeforeThree = refl;
+  refusedLine = refl;
+  plannedLine = refl;
+  shortLine = refl;
+}

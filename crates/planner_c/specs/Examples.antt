@@ -9,6 +9,9 @@ use Rattle.planner_c.specs.declared.Answer.{Answer}
 use Rattle.reasons.specs.Reading.{readReason}
 use Rattle.planner_c.specs.Calls.{Left, left}
 use Rattle.planner_c.specs.Entries.{planRow, checkRow}
+use Rattle.tree.specs.Beside.{beside}
+use Rattle.planner_c.specs.Trees.{planTree, checkTree, explainTree}
+use Rattle.planner_c.specs.TreeBroken.{pairList}
 use Rattle.planner_c.specs.Reasons.{explainRow, explainRefusal, numbered, ReadAgain}
 
 abbrev pub answer : ℕ → ℕ → ℕ → Answer
@@ -76,3 +79,29 @@ pub record Spoken : Type 0 where
 -- that number and place can be had again says something: it does not hold of P4's line with another place
 abbrev pub OtherPlaceBreaks : Type 0
 OtherPlaceBreaks = ¬ ReadAgain (answer 7 1 82) line
+
+-- ---- surveyed trees
+
+-- the plan of the list of TreeBroken's pair, a root and an end node, with BO 0, SO 0, HEAD 17, DATA 1 and ACK 0 beside; it has 115 bytes
+unfoldable pub treePlan : List ℕ
+treePlan = ascii "KIND DEPTH RATE BURST SLOTS FRAMES LATENCY BUFFER DELAY ROUTE\nS 0 2 2880 0 0 0 3 0 0\nE 1 2 960 2 2 960 3 1440 1440\n"
+
+-- a call of the entry that writes, with this BO, this sink and that many bytes lent; and of the one that speaks
+unfoldable pub treeCall : ℕ → ℕ → ℕ → Left
+treeCall bo sink n = planTree pairList (beside bo 0 17 1 0) sink (lent n)
+
+unfoldable pub treeExplained : ℕ → ℕ → Left
+treeExplained sink n = explainTree pairList (beside 0 0 17 1 0) sink (lent n)
+
+pub record TreeExamples : Type 0 where
+  pub check : checkTree pairList (beside 0 0 17 1 0) 1 ≡ answer 0 0 115
+  pub exact : treeCall 0 1 115 ≡ left (answer 0 0 115) treePlan
+  pub oneMore : treeCall 0 1 116 ≡ left (answer 0 0 115) (treePlan ++ lent 1)
+  pub oneLess : treeCall 0 1 114 ≡ left (answer 8 0 0) (lent 114)
+  -- 10 before 3, and both before 8
+  pub three : treeCall 15 1 0 ≡ left (answer 3 1 0) []
+  pub tenBeforeThree : treeCall 15 2 0 ≡ left (answer 10 0 0) []
+  -- lines of English
+  pub refusedLine : treeExplained 2 35 ≡ left (answer 10 0 34) (ascii "The sink is no router of the tree." ++ lent 1)
+  pub plannedLine : treeExplained 1 20 ≡ left (answer 0 0 20) (ascii "The tree is planned.")
+  pub shortLine : treeExplained 1 19 ≡ left (answer 8 0 0) (lent 19)

@@ -85,7 +85,7 @@ fn answer_of(plan: Plan) -> Answer
     }
 }
 
-// The answer to a refused row.
+// The answer to a refusal.
 fn refused(refusal: Refusal) -> Answer
     ensures { λ r. ⌜ r ≡ toldRefusal refusal ⌝ }
 {

@@ -8,8 +8,9 @@ use Rattle.balanced.specs.Lines.{letter}
 use Rattle.nodes.proofs.Computing.{lists}
 use Rattle.report.specs.Text.{numbers, refusalText}
 use Rattle.report.specs.TreeText.{treeHeader, nodeText, treeText}
+use Rattle.planner.specs.Plans.{printed}
 use Rattle.batch.specs.Output.{tooLong}
-use Rattle.printout.specs.Output.{valueOf, isUnreadable, argued, besideOf, sinkOf, argumentConditions, callOutcome, printed, treeOutput}
+use Rattle.printout.specs.Output.{valueOf, isUnreadable, argued, besideOf, sinkOf, argumentConditions, callOutcome, treeOutput}
 use Rattle.printout.specs.Examples.{argumentAt, argumentsIn, balancedList, common, brokenList, examples, ours, ExamplesHold}
 
 -- to unfold `outputs` is to unfold all that an output is computed with

@@ -26,9 +26,10 @@ use Rattle.nodes.proofs.LawsHold.{every-text-keeps}
 use Rattle.report.specs.Text.{refusalText}
 use Rattle.report.specs.TreeText.{treeHeader, treeText}
 use Rattle.report.proofs.OneTreeText.{one-text-for-trees}
+use Rattle.planner.specs.Plans.{printed}
 use Rattle.batch.specs.Output.{tooLong}
 use Rattle.settings.specs.declared.Settings.{Settings}
-use Rattle.printout.specs.Output.{argued, besideOf, sinkOf, argumentConditions, callOutcome, printed, treeOutput}
+use Rattle.printout.specs.Output.{argued, besideOf, sinkOf, argumentConditions, callOutcome, treeOutput}
 use Rattle.printout.specs.Laws.{LongInputs, TenBeforeTwo, ReadArguments, PrintedLinesKeep}
 use Rattle.printout.proofs.Outputs.{too-long, ten-broken, two-next, call-refused, call-planned, output-refused}
 
@@ -45,10 +46,10 @@ read-arguments a input h k = by (verdict (surveyed input (sinkOf a))) refl where
   o : TreeOutcome
   o = outcomeIn input (besideOf a) (sinkOf a)
 
-  by : (v : Verdict) → verdict (surveyed input (sinkOf a)) ≡ v → treeOutput a input ≡ printed o
-  by Kept e = ap printed (sym (call-planned a input (sym (two-next a input h e) ∙ k)))
+  by : (v : Verdict) → verdict (surveyed input (sinkOf a)) ≡ v → treeOutput a input ≡ printed treeText o
+  by Kept e = ap (printed treeText) (sym (call-planned a input (sym (two-next a input h e) ∙ k)))
   by (Broken r) e =
-      ap printed (sym (call-refused a input r (sym (ten-broken a input h r e))) ∙ first-part-answers Refused (Planned (lines (besideOf a) (treeIn input) (sinkOf a))) (surveyed input (sinkOf a)) (conditions (besideOf a) (treeIn input) (sinkOf a)) r e)
+      ap (printed treeText) (sym (call-refused a input r (sym (ten-broken a input h r e))) ∙ first-part-answers Refused (Planned (lines (besideOf a) (treeIn input) (sinkOf a))) (surveyed input (sinkOf a)) (conditions (besideOf a) (treeIn input) (sinkOf a)) r e)
 
 -- no refusal is printed as a plan is
 no-text : (r : Refusal) (p : List NodeLine) → refusalText r ≡ treeText p → ⊥
@@ -67,7 +68,7 @@ printed-lines-keep a input p e = by (callOutcome a input) refl e where
   own : List NodeLine
   own = lines b (treeIn input) sink
 
-  by : (o : TreeOutcome) → callOutcome a input ≡ o → printed o ≡ treeText p → Keeps b (treeIn input) sink p
+  by : (o : TreeOutcome) → callOutcome a input ≡ o → printed treeText o ≡ treeText p → Keeps b (treeIn input) sink p
   by (Refused r) q w = absurd (no-text r p w)
   by (Planned l) q w =
       let checked = conditions b (treeIn input) sink in

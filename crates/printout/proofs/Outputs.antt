@@ -1,5 +1,5 @@
 -- What is printed for a surveyed tree, as code finds it. Assumes nothing.
-use mathlib.Core.Path.{_≡_, refl, ap, sym, _∙_}
+use mathlib.Core.Path.{_≡_, ap, sym, _∙_}
 use mathlib.Core.Bool.{true, false}
 use mathlib.Core.List.{List, [], _++_}
 use Prim.Native.Nat.{ℕ, _≤_, _<_}
@@ -11,22 +11,22 @@ use Rattle.refusals.specs.declared.Refusal.{Refusal}
 use Rattle.refusals.specs.declared.Refusal.the-variants.{Unreadable, TextAfter, InputTooLong}
 use Rattle.refusals.specs.declared.Verdict.the-variants.{Kept, Broken}
 use Rattle.refusals.specs.Conditions.{Condition, firstBroken}
-use Rattle.refusals.proofs.Answering.{verdict, broken-kept, first-part-answers, second-part-answers}
+use Rattle.refusals.proofs.Answering.{verdict, first-part-answers, second-part-answers}
 use Rattle.refusals.proofs.Unbroken.{kept-unbroken, unbroken-first, unbroken-left, unbroken-right}
 use Rattle.settings.specs.declared.Settings.{Settings}
 use Rattle.planner.specs.declared.Plan.{Plan}
-use Rattle.planner.specs.Plans.{planned, refused, answer, written}
+use Rattle.planner.specs.Plans.{answer, written, printed}
+use Rattle.planner.proofs.Answered.{refused-printed, planned-printed}
 use Rattle.report.specs.TreeText.{treeText}
 use Rattle.report.specs.Text.{refusalText}
 use Rattle.tree.specs.declared.NodeLine.{NodeLine}
 use Rattle.tree.specs.Lines.{lines}
 use Rattle.tree.specs.Checks.{conditions}
 use Rattle.refusals.specs.Outcome.{Planned, Refused}
-use Rattle.tree.specs.Outcome.{TreeOutcome}
 use Rattle.nodes.specs.Survey.{treeIn, surveyed, outcomeIn}
 use Rattle.printout.specs.declared.Arguments.{Arguments}
 use Rattle.batch.specs.Output.{tooLong}
-use Rattle.printout.specs.Output.{isUnreadable, argued, besideOf, sinkOf, argumentConditions, callOutcome, printed, treeOutput}
+use Rattle.printout.specs.Output.{isUnreadable, argued, besideOf, sinkOf, argumentConditions, callOutcome, treeOutput}
 
 -- ---- numbers 9, 10 and 2
 
@@ -124,7 +124,7 @@ module _ (a : Arguments) (input : List ℕ) where
 
   pub output-refused : (r : Refusal) → verdict (argumentConditions a input) ≡ Broken r → refusalText r ≡ treeOutput a input
   unfolding treeOutput printed
-  output-refused r e = ap printed (call-refused r e)
+  output-refused r e = ap (printed treeText) (call-refused r e)
 
   module _ (k : verdict (argumentConditions a input) ≡ Kept) where
     list-kept : verdict (surveyed input sink) ≡ Kept
@@ -144,25 +144,11 @@ module _ (a : Arguments) (input : List ℕ) where
       answered : plan ≡ answer treeText (callOutcome a input)
       answered = e ∙ ap (answer treeText) call-planned
 
-      -- a plan that is refused has put nothing, and its refusal is printed
-      refused-is : (o : TreeOutcome) (r : Refusal) → plan ≡ answer treeText o → plan .verdict ≡ Broken r → (refusalText r ≡ printed o) × ([] ≡ written treeText o)
-      unfolding answer planned refused printed written
-      refused-is (Planned p) r q v = broken-kept r (sym v ∙ ap (λ (x : Plan). x .verdict) q)
-      refused-is (Refused s) r q v = (ap refusalText (same (sym v ∙ ap (λ (x : Plan). x .verdict) q)), refl)
-        where
-          same : Broken r ≡ Broken s → r ≡ s
-          same w = cc
-
-      pub plan-refused : (r : Refusal) → plan .verdict ≡ Broken r → (refusalText r ≡ treeOutput a input) × ([] ≡ written treeText (outcomeIn input b sink))
+      -- a plan that is refused has put nothing, and its refusal is printed; one that is planned has put all that is printed
+      pub plan-refused : (r : Refusal) → plan .verdict ≡ Broken r → (refusalText r ≡ treeOutput a input) × (written treeText (outcomeIn input b sink) ≡ [])
       unfolding treeOutput
-      plan-refused r v = let w = refused-is (callOutcome a input) r answered v in (w .0, w .1 ∙ ap (written treeText) (sym call-planned))
-
-      -- one that is planned has put all that is printed
-      planned-is : (o : TreeOutcome) → plan ≡ answer treeText o → plan .verdict ≡ Kept → (plan .length ≡ length (printed o)) × (written treeText o ≡ printed o)
-      unfolding answer planned refused printed written
-      planned-is (Planned p) q v = (ap (λ (x : Plan). x .length) q, refl)
-      planned-is (Refused s) q v = broken-kept s (sym (ap (λ (x : Plan). x .verdict) q) ∙ v)
+      plan-refused r v = let w = refused-printed treeText (callOutcome a input) plan answered r v in (w .0, ap (written treeText) call-planned ∙ w .1)
 
       pub plan-planned : plan .verdict ≡ Kept → (plan .length ≡ length (treeOutput a input)) × (written treeText (outcomeIn input b sink) ≡ treeOutput a input)
       unfolding treeOutput
-      plan-planned v = let w = planned-is (callOutcome a input) answered v in (w .0, ap (written treeText) call-planned ∙ w .1)
+      plan-planned v = let w = planned-printed treeText (callOutcome a input) plan answered v in (w .0, ap (written treeText) call-planned ∙ w .1)

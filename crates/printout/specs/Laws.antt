@@ -12,8 +12,9 @@ use Rattle.tree.specs.Promise.{Keeps}
 use Rattle.nodes.specs.Survey.{treeIn, surveyed, outcomeIn}
 use Rattle.report.specs.Text.{refusalText}
 use Rattle.report.specs.TreeText.{treeText}
+use Rattle.planner.specs.Plans.{printed}
 use Rattle.printout.specs.declared.Arguments.{Arguments}
-use Rattle.printout.specs.Output.{argued, besideOf, sinkOf, printed, treeOutput}
+use Rattle.printout.specs.Output.{argued, besideOf, sinkOf, treeOutput}
 
 -- over 65,536 bytes one line is all, whatever they and the arguments are
 abbrev pub LongInputs : Type 0
@@ -27,7 +28,7 @@ TenBeforeTwo = (a : Arguments) (input : List ℕ) (r : Refusal) → length input
 -- arguments that can be read are settings beside and a sink, and what is printed is the text's outcome with them
 abbrev pub ReadArguments : Type 0
 ReadArguments = (a : Arguments) (input : List ℕ) → length input ≤ 65536 → firstBroken Broken Kept (argued a) ≡ Kept
-    → treeOutput a input ≡ printed (outcomeIn input (besideOf a) (sinkOf a))
+    → treeOutput a input ≡ printed treeText (outcomeIn input (besideOf a) (sinkOf a))
 
 -- demand 3 of what is printed: of ANY lines whose text it is
 abbrev pub PrintedLinesKeep : Type 0

@@ -14,8 +14,8 @@ use Rattle.tree.specs.Checks.{conditions}
 use Rattle.refusals.specs.Outcome.{Planned, Refused}
 use Rattle.tree.specs.Outcome.{TreeOutcome}
 use Rattle.nodes.specs.Survey.{treeIn, surveyed}
-use Rattle.report.specs.Text.{refusalText}
 use Rattle.report.specs.TreeText.{treeText}
+use Rattle.planner.specs.Plans.{printed}
 use Rattle.printout.specs.declared.Arguments.{Arguments}
 use Rattle.batch.specs.Output.{tooLong}
 
@@ -55,9 +55,5 @@ callOutcome a input =
     (argumentConditions a input ++ conditions (besideOf a) (treeIn input) (sinkOf a))
 
 -- what is printed: the plan's text, or `R`, number and place of the first refusal
-unfoldable pub printed : TreeOutcome → List ℕ
-printed (Planned p) = treeText p
-printed (Refused r) = refusalText r
-
 unfoldable pub treeOutput : Arguments → List ℕ → List ℕ
-treeOutput a input = printed (callOutcome a input)
+treeOutput a input = printed treeText (callOutcome a input)

@@ -6,7 +6,9 @@ use lib.ListN.{length}
 use lib.Seq.{sets}
 use borrow.Author.Needs.{needs}
 use Rattle.answers.specs.Outcomes.{rowOutcome}
-use Rattle.batch.proofs.Inputs.{row-refused, row-none, row-planned, row-length}
+use Rattle.report.specs.Text.{text}
+use Rattle.planner.proofs.Answered.{refused-printed, planned-printed}
+use Rattle.batch.specs.Output.{printed}
 use Rattle.batch.proofs.put_plan.Statement.{statement}
 use Rattle.batch.proofs.put_plan.Tie as tie
 
@@ -23,6 +25,7 @@ same-length : tie.Need-same-length
 same-length c = search needs
 
 returns : tie.Need-returns
+unfolding printed
 returns c =
     let a = c .before .before .before .before .before .before .before .before .before .before .before .before .before .args in
     let o = rowOutcome (a .row .now) in
@@ -30,9 +33,9 @@ returns c =
     let w = plan .ensures in
     let broken = c .before .before .before .before .before .verdict .given .1 in
     let put = c .before .before .put-refusal .ensures in
-    let e = row-refused o (plan .result) (w .0) _ broken in
-    let same : plan .last .1 .0 ≡ a .out .now = w .1 .1 ∙ ap (λ (t : List ℕ). sets (a .out .now) 0 t) (row-none o (plan .result) (w .0) _ broken) in
-    (put .0 ∙ ap length e, (put .1 .0, put .1 .1 ∙ ap₂ (λ (b t : List ℕ). sets b 0 t) same e))
+    let e = refused-printed text o (plan .result) (w .0) _ broken in
+    let same : plan .last .1 .0 ≡ a .out .now = w .1 .1 ∙ ap (λ (t : List ℕ). sets (a .out .now) 0 t) (e .1) in
+    (put .0 ∙ ap length (e .0), (put .1 .0, put .1 .1 ∙ ap₂ (λ (b t : List ℕ). sets b 0 t) same (e .0)))
 
 enum-told : tie.Need-enum-told
 enum-told c = search needs
@@ -41,13 +44,14 @@ same-length-2 : tie.Need-same-length-2
 same-length-2 c = search needs
 
 returns-2 : tie.Need-returns-2
+unfolding printed
 returns-2 c =
     let a = c .before .before .before .before .before .before .before .before .args in
     let o = rowOutcome (a .row .now) in
     let plan = c .before .before .before .before .plan-row in
     let w = plan .ensures in
-    let e = row-planned o (plan .result) (w .0) (c .enum-told .given .1) in
-    (row-length o (plan .result) (w .0) ∙ ap length e, (w .1 .0, w .1 .1 ∙ ap (λ (t : List ℕ). sets (a .out .now) 0 t) e))
+    let e = planned-printed text o (plan .result) (w .0) (c .enum-told .given .1) in
+    (e .0, (w .1 .0, w .1 .1 ∙ ap (λ (t : List ℕ). sets (a .out .now) 0 t) (e .1)))
 
 pub put-plan-spec : {M : Type 1} → statement M
 put-plan-spec =

@@ -1,4 +1,5 @@
 -- `batch::put_refused` meets its contract. Assumes nothing.
+use Rattle.planner.specs.Plans as plans
 use Rattle.batch.specs.Output.{printed}
 use borrow.Author.Needs.{needs}
 use Rattle.batch.proofs.put_refused.Statement.{statement}
@@ -20,7 +21,7 @@ same-length : tie.Need-same-length
 same-length c = search needs
 
 returns : tie.Need-returns
-unfolding printed
+unfolding plans.printed printed
 returns c = rw (c .before .before .before .before .enum-told .given .1) (c .before .before .put-refusal .ensures)
 
 same-length-2 : tie.Need-same-length-2

@@ -63,7 +63,7 @@ returns-2 c =
     let o = ap₂ (λ (b : Settings) (s : ℕ). outcomeIn (a .input .now) b s) (c .before .before .before .before .before .before .before .before .before .before .before .before .settings-of .ensures) (c .before .before .before .before .before .before .before .before .before .before .before .sink-of .ensures) in
     let e = plan-refused (a .arguments) (a .input .now) k (plan .result) (w .0 ∙ ap (answer treeText) o) _ (c .before .before .before .before .before .verdict2 .given .1) in
     let put = c .before .before .put-refusal2 .ensures in
-    let same : plan .last .1 .1 .1 .0 ≡ a .out .now = w .1 .1 .0 ∙ ap (λ (t : List ℕ). sets (a .out .now) 0 t) (ap (written treeText) o ∙ sym (e .1)) in
+    let same : plan .last .1 .1 .1 .0 ≡ a .out .now = w .1 .1 .0 ∙ ap (λ (t : List ℕ). sets (a .out .now) 0 t) (ap (written treeText) o ∙ e .1) in
     (put .0 ∙ ap length (e .0), (omega (arith, put .1 .0), put .1 .1 ∙ ap₂ (λ (b t : List ℕ). sets b 0 t) same (e .0)))
 
 enum-told-2 : tie.Need-enum-told-2
