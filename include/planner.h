@@ -181,6 +181,13 @@ planner_answer planner_explain_refusal(uint32_t number, uint32_t place, uint8_t 
  */
 planner_refusal planner_read_reason(const uint8_t *line, size_t line_length);
 
+/*
+ * The table of exchange times that plans are made with: how many symbols of 16 microseconds the exchange of one frame lasts, of as many
+ * octets (HEAD + DATA), 6 to 127, without acknowledgement (ack 0) or with (ack 1). For any other octets or ack the answer is 0, which no
+ * exchange lasts. A printed table is held against it line by line: octets rise from 6, each without and then with acknowledgement.
+ */
+uint32_t planner_exchange_time(uint32_t octets, uint32_t ack);
+
 #ifdef __cplusplus
 }
 #endif

@@ -1,6 +1,7 @@
 /*
  * harness.c: calls the planner from C and checks what each call answers and leaves against planner.h, document 01 and
- * requests of document 02: E1 (a refusal as one English line), E2 (the beacon takes its time too), E3 (surveyed trees).
+ * requests of document 02: E1 (a refusal as one English line), E2 (the beacon takes its time too), E3 (surveyed trees), E4
+ * (exchange times from a table).
  *
  *     harness ROWS.TXT SEED CALLS
  *
@@ -11,8 +12,9 @@
  * 4. The deepest rows, in a thread with little stack.
  * 5. Refusals that are given by number and place.
  * 6. Surveyed trees: P2 as a list, noise, NULL, the longest chain in a thread with little stack.
+ * 7. The table of exchange times, and numbers outside it.
  *
- * In all parts but the fifth each row or list is also put into words, and the words are read back.
+ * In the first four parts and the sixth each row or list is also put into words, and the words are read back.
  *
  * The library is not built with the sanitizers. So that a byte read or written outside is seen nevertheless, names,
  * row, text and line each lie in memory of their own between two pages that nobody may touch, close against one of
@@ -1683,6 +1685,31 @@ static void summary(void)
     fprintf(stderr, "\n");
 }
 
+/* ---- Part 7: the table of exchange times, request E4 of document 02 ---- */
+
+/* Document 01's X: 12 + 2M symbols, 34 more if acknowledged, and 12 if M <= 18, else 40. 0 outside M 6 to 127 and ACK 0 and 1. */
+static uint32_t exchange_expected(uint32_t octets, uint32_t ack)
+{
+    if (octets < 6 || octets > 127 || ack > 1)
+        return 0;
+    return 12 + 2 * octets + (ack == 1 ? 34 : 0) + (octets <= 18 ? 12 : 40);
+}
+
+/* Every M of 9 bits with every ACK to 3, and numbers at the edges of 32 bits. */
+static void exchanges(void)
+{
+    static const uint32_t far[] = {1u << 16, (1u << 16) + 26, 1u << 31, (1u << 31) + 26, UINT32_MAX - 1, UINT32_MAX};
+    uint32_t octets, ack;
+    size_t i;
+    for (octets = 0; octets < 512; octets++)
+        for (ack = 0; ack < 4; ack++)
+            if (planner_exchange_time(octets, ack) != exchange_expected(octets, ack))
+                fail("an exchange time differs");
+    for (i = 0; i < sizeof far / sizeof far[0]; i++)
+        if (planner_exchange_time(far[i], 0) != 0 || planner_exchange_time(26, far[i]) != 0)
+            fail("an exchange time beyond the table");
+}
+
 int main(int argc, char **argv)
 {
     uint64_t calls;
@@ -1710,6 +1737,7 @@ int main(int argc, char **argv)
     little_stack();
     refusals();
     trees(calls / 10);
+    exchanges();
     summary();
     return 0;
 }

@@ -13,3 +13,5 @@ pub mod Breaks
 pub mod TreeBreaks
 -- the examples
 pub mod ExamplesHold
+-- exchange times from the table
+pub mod ExchangesAsked

@@ -1,6 +1,6 @@
 -- What holds of what calls leave, for those who call them: `planRow` and `planTree` are `leaves` of a row's and of a tree's plan and conditions.
 -- Assumes nothing: these are statements; proofs/LawsHold proves them.
-use Prim.Native.Nat.{ℕ, _≤_}
+use Prim.Native.Nat.{ℕ, _+_, _-_, _*_, _≤_}
 use mathlib.Core.Path.{_≡_}
 use mathlib.Core.List.{List}
 use lib.ListN.{length}
@@ -8,6 +8,8 @@ use Rattle.refusals.specs.declared.Refusal.{Refusal}
 use Rattle.refusals.specs.Conditions.{Condition, firstBroken}
 use Rattle.refusals.specs.Outcome.{Planned, Refused}
 use Rattle.settings.specs.declared.Settings.{Settings}
+use Rattle.superframe.specs.ExchangeTable.{entryFor}
+use Rattle.planner_c.specs.Exchanges.{exchangeAsked}
 use Rattle.planner_c.specs.Calls.{told, leaves, IsPlanned, StandsIn}
 use Rattle.planner_c.specs.Entries.{planRow}
 use Rattle.planner_c.specs.Trees.{planTree}
@@ -40,3 +42,7 @@ EntryPromises = (names row before : List ℕ) → Promised row (planRow names ro
 abbrev pub TreeEntryPromises : Type 0
 TreeEntryPromises = (nodes : List ℕ) (b : Settings) (sink : ℕ) (before : List ℕ)
     → PromisedTree nodes b sink (planTree nodes b sink before .answer) (planTree nodes b sink before .buffer)
+
+-- the entry for exchange times hands out the table: of m octets, the entry at 2 × (m − 6), and acknowledged the one behind it
+abbrev pub HandsOutTheTable : Type 0
+HandsOutTheTable = (m ack : ℕ) → 6 ≤ m → m ≤ 127 → ack ≤ 1 → exchangeAsked m ack ≡ entryFor (2 * (m - 6) + ack) .0

@@ -19,3 +19,5 @@ pub mod Laws
 pub mod Examples
 -- the answer to a plan, as an inner function gives it
 pub mod Inner
+-- exchange times from the table
+pub mod Exchanges

@@ -17,6 +17,7 @@ use report::LONGEST;
 
 pub mod reason; // refusals in English
 pub mod survey; // surveyed trees
+pub mod exchange; // the table of exchange times
 
 // What a call answers: 0, 0 and the text's length where the row is planned; else number and place of the refusal, and 0.
 #[repr(C)]

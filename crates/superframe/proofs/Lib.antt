@@ -3,6 +3,8 @@
 pub mod OrderLaws
 -- X
 pub mod ExchangeLaws
+-- the table of exchange times: the rule at each entry
+pub mod TableLaws
 -- m, k, T
 pub mod ReservationLaws
 -- document 01's figures

@@ -3,6 +3,8 @@
 pub mod Orders
 -- X
 pub mod Exchange
+-- the table of exchange times, its order and its rule
+pub mod ExchangeTable
 -- m, k, the rate of a reservation, T
 pub mod Reservation
 -- document 01's figures, computed in one table

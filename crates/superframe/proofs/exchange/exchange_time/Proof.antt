@@ -1,8 +1,10 @@
 -- `superframe::exchange::exchange_time` meets its contract. Assumes nothing.
+use mathlib.Core.Path.{_≡_, refl, sym, _∙_}
+use Prim.Native.Nat.{_+_, _-_, _*_}
 use native.Mathlib.Omega.{arith}
-use Rattle.superframe.specs.Exchange.{exchange, airTime}
+use mathlib.Core.Bool.{true, false}
+use Rattle.superframe.specs.ExchangeTable.{InOrder, behind}
 use Rattle.superframe.proofs.ExchangeLaws.{exchange-for-short, exchange-for-long, exchange-for-octets}
-use mathlib.Core.Path.{sym}
 use borrow.Author.Needs.{needs}
 use Rattle.superframe.proofs.exchange.exchange_time.Statement.{statement}
 use Rattle.superframe.proofs.exchange.exchange_time.Tie as tie
@@ -13,27 +15,30 @@ returns c = sym (exchange-for-short _ _ (c .if1 .taken))
 returns-2 : tie.Need-returns-2
 returns-2 c = sym (exchange-for-long _ _ (c .if2 .taken))
 
-mul-t4 : tie.Need-mul-t4
-mul-t4 c = search needs
+mul-first : tie.Need-mul-first
+mul-first c = search needs
 
-add-t5 : tie.Need-add-t5
-add-t5 c = search needs
+add-table-entry : tie.Need-add-table-entry
+add-table-entry c = search needs
 
-acknowledgement-time-requires : tie.Need-acknowledgement-time-requires
-acknowledgement-time-requires c κs = search needs
-
-add-t7 : tie.Need-add-t7
-add-t7 c = search needs
-
-spacing-after-requires : tie.Need-spacing-after-requires
-spacing-after-requires c κs = search needs
-
-add-t9 : tie.Need-add-t9
-add-t9 c = search needs
+table-entry-requires : tie.Need-table-entry-requires
+table-entry-requires c κs = search needs
 
 returns-3 : tie.Need-returns-3
-unfolding exchange airTime
-returns-3 c = let a = c .before .before .before .before .args in rw (exchange-for-octets (a .octets) (a .acknowledged) (omega arith) (omega arith), ← c .before .acknowledgement-time .ensures .0, ← c .spacing-after .ensures .0)
+unfolding InOrder behind
+returns-3 c =
+    let m = c .before .before .before .before .args .octets in
+    rw (c .before .if3 .taken) (c .table-entry .ensures .1 m true (omega arith) (omega arith) refl ∙ sym (exchange-for-octets m true (omega arith) (omega arith)))
+
+table-entry-requires-2 : tie.Need-table-entry-requires-2
+table-entry-requires-2 c κs = search needs
+
+returns-4 : tie.Need-returns-4
+unfolding InOrder behind
+returns-4 c =
+    let m = c .before .before .before .before .args .octets in
+    let z : 2 * (m - 6) ≡ 2 * (m - 6) + behind false = omega arith in
+    rw (c .before .if3 .left) (c .table-entry2 .ensures .1 m false (omega arith) (omega arith) z ∙ sym (exchange-for-octets m false (omega arith) (omega arith)))
 
 pub exchange-time-spec : {M : Type 1} → statement M
 exchange-time-spec =
@@ -41,10 +46,9 @@ exchange-time-spec =
     (tie.spec
     returns
     returns-2
-    mul-t4
-    add-t5
-    acknowledgement-time-requires
-    add-t7
-    spacing-after-requires
-    add-t9
-    returns-3)
+    mul-first
+    add-table-entry
+    table-entry-requires
+    returns-3
+    table-entry-requires-2
+    returns-4)
