@@ -7,7 +7,7 @@ use lib.Dec.{eqb}
 use borrow.Author.Tests.{le-leb, lt-leb}
 use Rattle.measure.specs.declared.Symbols.{Symbols}
 use Rattle.superframe.specs.Exchange.{exchange, exchangeFor}
-use Rattle.superframe.specs.ExchangeTable.{entryFor, behind}
+use Rattle.superframe.specs.ExchangeTable.{entryFor, placeOf}
 use Rattle.superframe.proofs.ExchangeLaws.{exchange-for-octets, exchange-most}
 use Rattle.superframe.proofs.TableLaws.{table-rule}
 use Rattle.planner_c.specs.Exchanges.{exchangeAsked}
@@ -39,13 +39,14 @@ module _ (m ack : ℕ) where
         let z : x .0 ≡ exchange m (eqb ack 1) .0 = ap (λ (y : Symbols). y .0) (e ∙ exchange-for-octets m (eqb ack 1) low high) in
         omega (arith, z, exchange-most m (eqb ack 1) high)
 
-behind-is : (ack : ℕ) → ack ≤ 1 → behind (eqb ack 1) ≡ ack
-unfolding behind
-behind-is ack h = elim (decLe ack 0) [
+-- the place of m octets counts ACK itself
+place-is : (m ack : ℕ) → ack ≤ 1 → placeOf m (eqb ack 1) ≡ 2 * (m - 6) + ack
+unfolding placeOf
+place-is m ack h = elim (decLe ack 0) [
   | yes l ↦ let z : ack ≡ 0 = omega arith in rw z refl
   | no f ↦ let z : ack ≡ 1 = omega arith in rw z refl
 ]
 
 pub hands-out-the-table : HandsOutTheTable
 hands-out-the-table m ack low high h =
-    sym (asked-is m ack low high h) ∙ ap (λ (x : Symbols). x .0) (sym (table-rule m (eqb ack 1) low high)) ∙ ap (λ (k : ℕ). entryFor (2 * (m - 6) + k) .0) (behind-is ack h)
+    sym (asked-is m ack low high h) ∙ ap (λ (x : Symbols). x .0) (sym (table-rule m (eqb ack 1) low high)) ∙ ap (λ (i : ℕ). entryFor i .0) (place-is m ack h)

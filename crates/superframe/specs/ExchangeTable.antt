@@ -3,6 +3,7 @@ use Prim.Native.Nat.{ℕ, zero, suc, _+_, _-_, _*_, _≤_}
 use mathlib.Core.Path.{_≡_}
 use mathlib.Core.Bool.{Bool, true, false, cond}
 use mathlib.Core.List.{List, [], _∷_}
+use lib.Dec.{ltb}
 use lib.ListN.{getD}
 use Rattle.measure.specs.declared.Symbols.{Symbols}
 use Rattle.measure.specs.Measures.{symbols}
@@ -19,12 +20,12 @@ table = entriesFrom 6 122
 
 -- what is answered for any entry, counted from 0: 340, the longest of all, where there is none
 unfoldable pub entryFor : ℕ → Symbols
-entryFor i = symbols (getD table i 340)
+entryFor i = symbols (cond (ltb i 244) (getD table i 0) 340)
 
--- where the entry of m octets stands: 2 × (m − 6) and, acknowledged, one behind
-unfoldable pub behind : Bool → ℕ
-behind acknowledged = cond acknowledged 1 0
+-- the entry at which X of m octets stands
+unfoldable pub placeOf : ℕ → Bool → ℕ
+placeOf m acknowledged = 2 * (m - 6) + cond acknowledged 1 0
 
--- the order, for those who hold the table against a print: at the place of m octets stands X of m octets
+-- the order, for those who hold the table against a print: where x stands at entry i, and X of m octets stands there, x is that X
 unfoldable pub InOrder : ℕ → Symbols → Type 0
-InOrder i x = (m : ℕ) (acknowledged : Bool) → 6 ≤ m → m ≤ 127 → i ≡ 2 * (m - 6) + behind acknowledged → x ≡ exchange m acknowledged
+InOrder i x = (m : ℕ) (acknowledged : Bool) → 6 ≤ m → m ≤ 127 → i ≡ placeOf m acknowledged → x ≡ exchange m acknowledged
