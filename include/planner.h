@@ -15,7 +15,7 @@
  * and of a surveyed tree, whose nodes are listed one by one:
  *
  *     uint8_t text[PLANNER_LONGEST_TREE_TEXT];
- *     planner_answer a = planner_plan_tree(nodes, nodes_length, bo, so, head, data, ack, sink, text, sizeof text);
+ *     planner_answer a = planner_plan_tree(nodes, nodes_length, bo, so, head, data, ack, sink, loss, text, sizeof text);
  *
  * and, for people, one line of English:
  *
@@ -25,10 +25,17 @@
  *
  * Names and rows
  *
- *     names   the line of names, without its line end:
+ *     names   the line of names, without its line end, of 12 names or of 13:
  *             BO SO H NR NE OWN SINK BURST RATE HEAD DATA ACK
- *     row     twelve values in that order, without a line end: 1 to 4 digits each, no leading zero, one space between,
- *             as 8 4 1 2 1 0 0 1 1 19 7 0
+ *             BO SO H NR NE OWN SINK BURST RATE HEAD DATA ACK LOSS
+ *     row     as many values in that order, without a line end: 1 to 4 digits each, no leading zero, one space between,
+ *             as 8 4 1 2 1 0 0 1 1 19 7 0 or 8 4 1 2 1 0 0 1 1 19 7 1 3
+ *
+ *     LOSS, 0 to 7, is how many tries of one frame on one link may fail in a row, the frame or its acknowledgement lost; under 12 names it is 0.
+ *     The exchange of a frame then lasts X + LOSS x (X + 20) symbols, where X is what planner_exchange_time hands out: the tries that fail
+ *     and the one that does not fit into it, and the frame counts as received when it ends. Slots, frames, latencies, buffers and delays are
+ *     those of such exchanges. So the printed delays, queue sizes and the sink's load hold with up to LOSS failed tries for each frame on each
+ *     link, and for LOSS 0 with none.
  *
  *     Neither needs a 0 byte at its end, and a line end or a 0 byte inside is a byte like any other (no name, no digit).
  *
@@ -38,18 +45,18 @@
  *             node lines of four values, written as a row's are, as 2 1 0 0 or 5 2 1 12.
  *             NODE counts 1, 2, ..; node 1 is the root and has PARENT 0, any other parent is an earlier node; BURST and RATE
  *             are those of the node's own sensor, 1 to 255 and 1 to 4095, or both 0 where it has none.
- *     beside  bo, so, head, data and ack as in a row; sink is the node that all readings go to. It must be a router: node 1 or
- *             a node with children.
+ *     beside  bo, so, head, data, ack and loss as in a row (loss 0: no try fails); sink is the node that all readings go to. It must be
+ *             a router: node 1 or a node with children.
  *
  * Answers
  *
  *     number 0    planned: length is the length of the plan's text, place is 0
  *     number > 0  refused with this number at this place; length is 0:
  *                 1  names differ or are missing                 place 0
- *                 2  a value is unreadable or missing, or text   its column, from 1; 13 for text after the last
- *                    stands after the last
+ *                 2  a value is unreadable or missing, or text   its column, from 1; for text after the last 13
+ *                    stands after the last                       under 12 names, 14 under 13
  *                 3  a value is outside its range                its column
- *                 4  values at odds with each other              2, 4, 5, 7 or 11: a column
+ *                 4  values at odds with each other              2, 4, 5, 7, 11 or 13: a column
  *                 5  NE + NR > 7 reservations                    0
  *                 6  more routers than superframes fit           0
  *                 7  slots used exceed those reservable          the first such depth
@@ -62,8 +69,10 @@
  *                 10 a node line breaks a rule, or the first is  its line: node 1's is 1
  *                    missing
  *                 10 the sink is no router of the tree           place 0
- *                 3  a number beside is outside its range        its column in a row: bo 1, so 2, head 10, data 11, ack 12
- *                 4  so > bo; head + data > 127                  2; 11
+ *                 3  a number beside is outside its range        its column in a row: bo 1, so 2, head 10, data 11, ack 12,
+ *                                                                loss 13
+ *                 4  so > bo; head + data > 127; loss > 0 with   2; 11; 13
+ *                    ack 0
  *                 6  more routers than superframes fit           0
  *                 5  more than 7 reservations at a router, or    that router's node, the first one
  *                 7  its slots used exceed those reservable
@@ -152,7 +161,7 @@ planner_answer planner_explain_row(const uint8_t *names, size_t names_length, co
  * Plans the tree of a node list and writes nothing: number, place and the length of the plan's text. Number 8 is never answered.
  */
 planner_answer planner_check_tree(const uint8_t *nodes, size_t nodes_length, uint32_t bo, uint32_t so, uint32_t head, uint32_t data,
-                                  uint32_t ack, uint32_t sink);
+                                  uint32_t ack, uint32_t sink, uint32_t loss);
 
 /*
  * Plans the tree of a node list and puts the plan's text at the front of text; the bytes behind it keep their values. Where it is refused,
@@ -160,14 +169,14 @@ planner_answer planner_check_tree(const uint8_t *nodes, size_t nodes_length, uin
  * PLANNER_LONGEST_TREE_TEXT spares planning twice.
  */
 planner_answer planner_plan_tree(const uint8_t *nodes, size_t nodes_length, uint32_t bo, uint32_t so, uint32_t head, uint32_t data,
-                                 uint32_t ack, uint32_t sink, uint8_t *text, size_t text_length);
+                                 uint32_t ack, uint32_t sink, uint32_t loss, uint8_t *text, size_t text_length);
 
 /*
  * Plans the tree of a node list and puts one line of English at the front of line: why it is refused, or 'The tree is planned.'. Otherwise
  * as planner_explain_row.
  */
 planner_answer planner_explain_tree(const uint8_t *nodes, size_t nodes_length, uint32_t bo, uint32_t so, uint32_t head, uint32_t data,
-                                    uint32_t ack, uint32_t sink, uint8_t *line, size_t line_length);
+                                    uint32_t ack, uint32_t sink, uint32_t loss, uint8_t *line, size_t line_length);
 
 /*
  * Puts the line of a refusal that number and place alone determine: 1, 8 and 9, each at place 0. The answer is 0, 0 and the line's
@@ -182,8 +191,8 @@ planner_answer planner_explain_refusal(uint32_t number, uint32_t place, uint8_t 
 planner_refusal planner_read_reason(const uint8_t *line, size_t line_length);
 
 /*
- * The table of exchange times that plans are made with: how many symbols of 16 microseconds the exchange of one frame lasts, of as many
- * octets (HEAD + DATA), 6 to 127, without acknowledgement (ack 0) or with (ack 1). For any other octets or ack the answer is 0, which no
+ * The table of exchange times that plans are made with: X, how many symbols of 16 microseconds the exchange of one frame lasts where no try
+ * fails, of as many octets (HEAD + DATA), 6 to 127, without acknowledgement (ack 0) or with (ack 1). For any other octets or ack the answer is 0, which no
  * exchange lasts. A printed table is held against it line by line: octets rise from 6, each without and then with acknowledgement.
  */
 uint32_t planner_exchange_time(uint32_t octets, uint32_t ack);

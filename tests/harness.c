@@ -1,7 +1,7 @@
 /*
  * harness.c: calls the planner from C and checks what each call answers and leaves against planner.h, document 01 and
  * requests of document 02: E1 (a refusal as one English line), E2 (the beacon takes its time too), E3 (surveyed trees), E4
- * (exchange times from a table).
+ * (exchange times from a table), E5 (tries that may fail).
  *
  *     harness ROWS.TXT SEED CALLS
  *
@@ -13,8 +13,10 @@
  * 5. Refusals that are given by number and place.
  * 6. Surveyed trees: P2 as a list, noise, NULL, the longest chain in a thread with little stack.
  * 7. The table of exchange times, and numbers outside it.
+ * 8. Rows under 13 names and trees with LOSS whose answers are known.
  *
- * In the first four parts and the sixth each row or list is also put into words, and the words are read back.
+ * In the first four parts, the sixth and the eighth each row or list is also put into words, and the words are read
+ * back.
  *
  * The library is not built with the sanitizers. So that a byte read or written outside is seen nevertheless, names,
  * row, text and line each lie in memory of their own between two pages that nobody may touch, close against one of
@@ -37,6 +39,8 @@
 #include <unistd.h>
 
 #define NAMES "BO SO H NR NE OWN SINK BURST RATE HEAD DATA ACK"
+#define LOSS_NAMES NAMES " LOSS"
+#define COLUMNS 13 /* with LOSS */
 #define HEADER "KIND DEPTH RATE BURST SLOTS FRAMES LATENCY BUFFER DELAY\n"
 #define PLANNED_LINE "The row is planned."
 
@@ -66,14 +70,14 @@ struct region {
     size_t size;
 };
 
-/* Column by column, the ranges of document 01. */
+/* Column by column, the ranges of document 01 and that of LOSS. */
 static const struct {
     unsigned low, high;
-} ranges[12] = {{0, 14}, {0, 14},  {0, 12},   {0, 7},   {0, 7},   {0, 1},
-                {0, 12}, {1, 255}, {1, 4095}, {5, 126}, {1, 122}, {0, 1}};
+} ranges[COLUMNS] = {{0, 14},  {0, 14},   {0, 12},  {0, 7},   {0, 7}, {0, 1}, {0, 12},
+                     {1, 255}, {1, 4095}, {5, 126}, {1, 122}, {0, 1}, {0, 7}};
 
-static const char *const columns[12] = {"BO",   "SO",    "H",    "NR",   "NE",   "OWN",
-                                        "SINK", "BURST", "RATE", "HEAD", "DATA", "ACK"};
+static const char *const columns[COLUMNS] = {"BO",    "SO",   "H",    "NR",   "NE",  "OWN", "SINK",
+                                             "BURST", "RATE", "HEAD", "DATA", "ACK", "LOSS"};
 
 static const planner_answer too_short = {.number = 8, .place = 0, .length = 0};
 
@@ -91,7 +95,7 @@ static struct {
     size_t text_length, line_length;
     planner_answer check, plan, explain;
     planner_refusal asked, read;
-    uint32_t beside[6]; /* in part 6, where the list is reported as the row: BO SO HEAD DATA ACK SINK */
+    uint32_t beside[7]; /* in parts 6 and 8, where the list is reported as the row: BO SO HEAD DATA ACK SINK LOSS */
 } now = {.part = "start"};
 
 /* How often planner_plan_row and planner_explain_row gave each number, and how many lines were read. */
@@ -198,7 +202,7 @@ static void report_call(void)
     say_refusal("planner_explain_refusal, latest call", now.asked);
     say_refusal("planner_read_reason, latest answer", now.read);
     say("beside a list:");
-    for (size_t i = 0; i < 6; i++) {
+    for (size_t i = 0; i < sizeof now.beside / sizeof now.beside[0]; i++) {
         say(" ");
         say_number(now.beside[i]);
     }
@@ -340,15 +344,27 @@ static bool same_answer(planner_answer a, planner_answer b)
     return a.number == b.number && a.place == b.place && a.length == b.length;
 }
 
+static bool names_are(const char *line)
+{
+    return now.names.length == strlen(line) && memcmp(now.names.at, line, strlen(line)) == 0;
+}
+
+/* The columns that the names name; none where they are wrong. */
+static size_t columns_named(void)
+{
+    return names_are(NAMES) ? COLUMNS - 1 : names_are(LOSS_NAMES) ? COLUMNS : 0;
+}
+
 static bool place_fits(planner_answer a)
 {
     switch (a.number) {
     case 2:
-        return a.place >= 1 && a.place <= 13;
+        return a.place >= 1 && a.place <= columns_named() + 1;
     case 3:
-        return a.place >= 1 && a.place <= 12;
+        return a.place >= 1 && a.place <= columns_named();
     case 4:
-        return a.place == 2 || a.place == 4 || a.place == 5 || a.place == 7 || a.place == 11;
+        return a.place == 2 || a.place == 4 || a.place == 5 || a.place == 7 || a.place == 11 ||
+               (a.place == COLUMNS && columns_named() == COLUMNS);
     case 7:
         return a.place <= 12;
     default:
@@ -370,9 +386,29 @@ static planner_answer with_loan(planner_answer check, size_t text_length)
     return check.number == 0 && check.length > text_length ? too_short : check;
 }
 
-static bool names_are_right(void)
+/* How often planner_plan_row has answered this: planned with LOSS above 0; else refused with this number and place. */
+static struct {
+    const char *name;
+    uint64_t count;
+} of_loss[] = {{"planned", 0}, {"2 13 under 12 names", 0}, {"2 13 under 13 names", 0},
+               {"2 14", 0},    {"3 13", 0},                {"4 13", 0}};
+
+#define OF_LOSS (sizeof of_loss / sizeof of_loss[0])
+
+/* A planned row under 13 names ends with LOSS, which is one digit. */
+static void count_loss(planner_answer a)
 {
-    return now.names.length == strlen(NAMES) && memcmp(now.names.at, NAMES, strlen(NAMES)) == 0;
+    bool named = columns_named() == COLUMNS;
+    if (a.number == 0 && named && now.row.at[now.row.length - 1] != '0')
+        of_loss[0].count++;
+    else if (a.number == 2 && a.place == 13)
+        of_loss[named ? 2 : 1].count++;
+    else if (a.number == 2 && a.place == 14)
+        of_loss[3].count++;
+    else if (a.number == 3 && a.place == 13)
+        of_loss[4].count++;
+    else if (a.number == 4 && a.place == 13)
+        of_loss[5].count++;
 }
 
 /* Both functions of the library that plan, with all that can be said of the answers alone. */
@@ -382,7 +418,8 @@ static planner_answer check_row(const uint8_t *names, size_t names_length, const
     now.check = planner_check_row(names, names_length, row, row_length);
     check_answer(now.check);
     require(now.check.number != 8, "number 8 from planner_check_row");
-    require((now.check.number == 1) == !names_are_right(), "number 1 with the right names, or another with wrong ones");
+    require((now.check.number == 1) == (columns_named() == 0),
+            "number 1 with the right names, or another with wrong ones");
     return now.check;
 }
 
@@ -397,6 +434,7 @@ static planner_answer plan_row(const uint8_t *names, size_t names_length, const 
     require(same_answer(now.plan, with_loan(now.check, text_length)),
             "planner_check_row and planner_plan_row do not agree");
     answered[now.plan.number]++;
+    count_loss(now.plan);
     return now.plan;
 }
 
@@ -414,10 +452,10 @@ static const char *fixed_line(uint32_t number, uint32_t place)
     return NULL;
 }
 
-/* The values of a row that was answered with 3 or above: all of them can be read then. */
+/* The values of a row that was answered with 3 or above: all of them can be read then. LOSS is 0 under 12 names. */
 static void read_values(struct slice row, unsigned *v)
 {
-    for (size_t i = 0, at = 0; i < 12; i++, at++)
+    for (size_t i = 0, at = 0; i < COLUMNS; i++, at++)
         for (v[i] = 0; at < row.length && row.at[at] != ' '; at++)
             v[i] = 10 * v[i] + (unsigned)(row.at[at] - '0');
 }
@@ -442,10 +480,13 @@ static int write_at_odds(char *line, size_t size, uint32_t place, const unsigned
         return snprintf(line, size,
                         "Values are at odds at SINK, which is 0 where NR is below 2: SINK is %u and NR is %u.", v[6],
                         v[3]);
-    default:
+    case 11:
         return snprintf(line, size,
                         "Values are at odds at DATA, which with HEAD may not be above 127: HEAD is %u and DATA is %u.",
                         v[9], v[10]);
+    default:
+        return snprintf(line, size, "Values are at odds at LOSS, which is 0 where ACK is 0: LOSS is %u and ACK is %u.",
+                        v[12], v[11]);
     }
 }
 
@@ -491,12 +532,12 @@ static int write_slots(char *line, size_t size, uint32_t depth, const unsigned *
 /* The line of the row for this answer of planner_check_row. */
 static int write_line(char *line, size_t size, planner_answer a, struct slice found)
 {
-    unsigned v[12];
+    unsigned v[COLUMNS];
     if (a.number == 0)
         return snprintf(line, size, PLANNED_LINE);
     if (a.number == 1)
         return snprintf(line, size, "%s", fixed_line(1, 0));
-    if (a.number == 2 && a.place > 12)
+    if (a.number == 2 && a.place > columns_named())
         return snprintf(line, size, "There is text after the last value, where column %" PRIu32 " would be.", a.place);
     if (a.number == 2)
         return snprintf(line, size, "The value of %s is unreadable or missing.", columns[a.place - 1]);
@@ -670,21 +711,30 @@ static void mutate_some(struct input *input)
             mutate(input);
 }
 
+/* The values that are put into a row: 12, or 13 with LOSS. */
+static size_t drawn_columns = COLUMNS - 1;
+
+static void add_value(struct input *row, unsigned value)
+{
+    int n = snprintf((char *)row->bytes + row->length, 16, row->length > 0 ? " %u" : "%u", value);
+    row->length += (size_t)n;
+}
+
 static void write_settings(struct input *row, const unsigned *v)
 {
-    int n = snprintf((char *)row->bytes, sizeof row->bytes, "%u %u %u %u %u %u %u %u %u %u %u %u", v[0], v[1], v[2],
-                     v[3], v[4], v[5], v[6], v[7], v[8], v[9], v[10], v[11]);
-    row->length = (size_t)n;
+    row->length = 0;
+    for (size_t i = 0; i < drawn_columns; i++)
+        add_value(row, v[i]);
 }
 
 /* Values within their ranges or at most one step outside: numbers 3 to 7, most of the time. */
 static void any_settings(struct input *row)
 {
-    unsigned v[12];
-    for (size_t i = 0; i < 12; i++)
+    unsigned v[COLUMNS];
+    for (size_t i = 0; i < drawn_columns; i++)
         v[i] = between(ranges[i].low, ranges[i].high);
     if (below(4) == 0) {
-        size_t i = below(12);
+        size_t i = below(drawn_columns);
         v[i] = below(2) == 0 || ranges[i].low == 0 ? ranges[i].high + 1 : ranges[i].low - 1;
     }
     write_settings(row, v);
@@ -706,7 +756,7 @@ static unsigned orders_apart(unsigned depth, unsigned children)
 /* Values that pass the checks up to number 6, and often number 7 as well. */
 static void likely_settings(struct input *row)
 {
-    unsigned v[12], apart;
+    unsigned v[COLUMNS], apart;
     do {
         v[2] = below(3) == 0 ? between(0, 12) : between(0, 4);
         v[3] = v[2] == 0 ? 0 : between(1, below(2) == 0 ? 2 : 7);
@@ -722,6 +772,7 @@ static void likely_settings(struct input *row)
     v[9] = below(2) == 0 ? between(5, 20) : between(5, 126);
     v[10] = v[9] > 5 ? between(1, 127 - v[9]) : between(1, 122);
     v[11] = between(0, 1);
+    v[12] = v[11] == 0 && below(8) > 0 ? 0 : between(0, 7);
     write_settings(row, v);
 }
 
@@ -746,10 +797,13 @@ static void line_of_file(struct input *row)
 
 static void good_row(struct input *row)
 {
-    if (below(4) == 0)
-        line_of_file(row);
-    else
+    if (below(4) > 0) {
         likely_settings(row);
+        return;
+    }
+    line_of_file(row);
+    if (drawn_columns == COLUMNS)
+        add_value(row, between(0, 7));
 }
 
 /* Long rows: a good one with much behind it, one that repeats itself, or nothing but noise. */
@@ -802,10 +856,14 @@ static void noise_row(struct input *row)
     }
 }
 
+/* The row that is drawn next mostly has as many values as there are names. */
 static void noise_names(struct input *names)
 {
     size_t kind = below(32);
-    set_input(names, NAMES, strlen(NAMES));
+    bool with_loss = below(2) == 0;
+    const char *line = with_loss ? LOSS_NAMES : NAMES;
+    drawn_columns = with_loss != (below(16) == 0) ? COLUMNS : COLUMNS - 1;
+    set_input(names, line, strlen(line));
     if (kind == 0)
         names->length = 0;
     else if (kind == 1)
@@ -1075,6 +1133,8 @@ static void noise(uint64_t calls)
     for (size_t number = 0; number <= 8 && calls >= 10000; number++)
         require(answered[number] > 0 && explained[number] > 0,
                 "a number that so much noise should have met was never answered");
+    for (size_t i = 0; i < OF_LOSS && calls >= 10000; i++)
+        require(of_loss[i].count > 0, "an answer about LOSS that so much noise should have met was never given");
 }
 
 /* ---- Part 3: nothing handed over ---- */
@@ -1163,10 +1223,11 @@ static void nothing_handed_over(void)
 #define MORE_STACK (31 * FREE_STACK) /* for the thread, beside what is free at the call */
 #define STACK_FILL 0xa5
 #define KEPT_STACK 1024 /* not filled: the filling function's own frame lies there */
-#define DEEP_ROWS 4
+#define DEEP_ROWS 5
 #define DEEP_CALLS 6000
 
 static struct deep_row {
+    const char *names;
     char row[64];
     planner_answer expected, explained;
     uint8_t text[PLANNER_LONGEST_TEXT];
@@ -1178,10 +1239,15 @@ static const char *deep_failure;
 static size_t deep_allowed, deep_free, deep_used;
 static void (*deep_work)(void);
 
+static void name_deep_row(const struct deep_row *deep)
+{
+    now.names = (struct slice){(const uint8_t *)deep->names, strlen(deep->names)};
+    now.row = (struct slice){(const uint8_t *)deep->row, strlen(deep->row)};
+}
+
 static planner_answer check_deep_row(const struct deep_row *deep)
 {
-    now.names = (struct slice){(const uint8_t *)NAMES, strlen(NAMES)};
-    now.row = (struct slice){(const uint8_t *)deep->row, strlen(deep->row)};
+    name_deep_row(deep);
     return check_row(now.names.at, now.names.length, now.row.at, now.row.length);
 }
 
@@ -1214,14 +1280,18 @@ static void expect_of(struct deep_row *deep, uint32_t number, uint32_t place)
 
 static void make_deep_rows(void)
 {
+    for (size_t i = 0; i < DEEP_ROWS; i++)
+        deep_rows[i].names = i < 4 ? NAMES : LOSS_NAMES;
     snprintf(deep_rows[0].row, sizeof deep_rows[0].row, "14 10 12 1 6 1 0 255 3 5 1 0");
     find_deepest(&deep_rows[1]);
     snprintf(deep_rows[2].row, sizeof deep_rows[2].row, "14 1 12 2 0 1 12 255 1 5 1 0");
     snprintf(deep_rows[3].row, sizeof deep_rows[3].row, "14 6 7 2 1 0 7 1 1 55 1 1");
+    snprintf(deep_rows[4].row, sizeof deep_rows[4].row, "14 10 12 1 6 1 0 255 3 5 1 1 7");
     expect_of(&deep_rows[0], 0, 0);
     expect_of(&deep_rows[1], 0, 0);
     expect_of(&deep_rows[2], 7, 0);
     expect_of(&deep_rows[3], 7, 6);
+    expect_of(&deep_rows[4], 0, 0);
 }
 
 /* Answers the lowest byte that is free. */
@@ -1251,7 +1321,7 @@ static const volatile uint8_t *lowest_changed(const volatile uint8_t *low, const
 static void call_deep(const struct deep_row *deep)
 {
     planner_answer a;
-    now.row = (struct slice){(const uint8_t *)deep->row, strlen(deep->row)};
+    name_deep_row(deep);
     a = planner_plan_row(now.names.at, now.names.length, now.row.at, now.row.length, deep_text, sizeof deep_text);
     now.plan = a;
     if (!same_answer(a, deep->expected) || memcmp(deep_text, deep->text, (size_t)a.length) != 0)
@@ -1393,13 +1463,15 @@ static void refusals(void)
 #define TREE_STACK 131072 /* what planner.h says of the entries for trees */
 #define TREE_CALLS 200
 
-#define BESIDE now.beside[0], now.beside[1], now.beside[2], now.beside[3], now.beside[4], now.beside[5]
+#define BESIDE                                                                                                         \
+    now.beside[0], now.beside[1], now.beside[2], now.beside[3], now.beside[4], now.beside[5], now.beside[6]
 
 static uint64_t tree_answered[11];
 
-static void set_beside(uint32_t bo, uint32_t so, uint32_t head, uint32_t data, uint32_t ack, uint32_t sink)
+static void set_beside(uint32_t bo, uint32_t so, uint32_t head, uint32_t data, uint32_t ack, uint32_t sink,
+                       uint32_t loss)
 {
-    uint32_t values[6] = {bo, so, head, data, ack, sink};
+    uint32_t values[7] = {bo, so, head, data, ack, sink, loss};
     memcpy(now.beside, values, sizeof values);
 }
 
@@ -1407,9 +1479,9 @@ static void check_tree_answer(planner_answer a)
 {
     bool fits = a.place == 0;
     if (a.number == 3)
-        fits = a.place == 1 || a.place == 2 || (a.place >= 10 && a.place <= 12);
+        fits = a.place == 1 || a.place == 2 || (a.place >= 10 && a.place <= 13);
     else if (a.number == 4)
-        fits = a.place == 2 || a.place == 11;
+        fits = a.place == 2 || a.place == 11 || a.place == 13;
     else if (a.number == 5 || a.number == 7)
         fits = a.place >= 1 && a.place <= MOST_NODES;
     else if (a.number == 10)
@@ -1531,7 +1603,7 @@ static void second_plan(void)
                                            "E 2 1 245760 1 9 245032 2 272339 272339\n"
                                            "E 2 1 245760 1 9 245032 2 272339 953227\n";
     set_input(&row_input, list, strlen(list));
-    set_beside(8, 4, 19, 7, 0, 2);
+    set_beside(8, 4, 19, 7, 0, 2, 0);
     for (size_t length = 0; length <= strlen(text) + 8; length++) {
         call_tree_twice((unsigned)length, length);
         require(now.check.length == strlen(text), "not the length of P2 as a list");
@@ -1578,10 +1650,11 @@ static void noise_list(struct input *list)
 /* Settings and sinks that mostly fit; else one of them is anything. */
 static void noise_beside(void)
 {
-    uint32_t so = between(0, 9), head = between(5, 60);
-    set_beside(between(so, 14), so, head, between(1, 127 - head), between(0, 1), below(2) == 0 ? 1 : between(1, 12));
+    uint32_t so = between(0, 9), head = between(5, 60), ack = between(0, 1);
+    uint32_t loss = ack == 0 && below(8) > 0 ? 0 : between(0, 7);
+    set_beside(between(so, 14), so, head, between(1, 127 - head), ack, below(2) == 0 ? 1 : between(1, 12), loss);
     if (below(4) == 0)
-        now.beside[below(6)] = below(2) == 0 ? (uint32_t)draw() : between(0, 300);
+        now.beside[below(7)] = below(2) == 0 ? (uint32_t)draw() : between(0, 300);
 }
 
 static void tree_noise(uint64_t calls)
@@ -1606,7 +1679,7 @@ static void no_tree(unsigned way)
     uint8_t *nowhere = (uint8_t *)(uintptr_t)none.at;
     planner_answer names = {10, 0, 0};
     set_input(&row_input, LIST_NAMES "1 0 0 0", strlen(LIST_NAMES "1 0 0 0"));
-    set_beside(8, 4, 19, 7, 0, 1);
+    set_beside(8, 4, 19, 7, 0, 1, 0);
     require(same_answer(planner_check_tree(none.at, 0, BESIDE), names), "no list is not refused for its names");
     require(same_answer(planner_plan_tree(none.at, 0, BESIDE, nowhere, 0), names), "10 does not come before 8");
     require(same_answer(planner_explain_tree(none.at, 0, BESIDE, nowhere, 0), too_short), "a line without room");
@@ -1638,7 +1711,7 @@ static void trees(uint64_t calls)
     set_input(&row_input, LIST_NAMES, strlen(LIST_NAMES));
     for (unsigned node = 1; node <= MOST_NODES; node++)
         add_node(&row_input, node, node - 1, 255, 1);
-    set_beside(14, 6, 5, 1, 0, 1);
+    set_beside(14, 6, 5, 1, 0, 1, 0);
     with_stack(call_deep_trees, TREE_STACK);
     fprintf(stderr, "trees: answers by number");
     for (size_t number = 0; number <= 10; number++)
@@ -1682,6 +1755,9 @@ static void summary(void)
     fprintf(stderr, "\nsummary: lines read %" PRIu64 ", lines put by number", lines_read);
     for (size_t number = 0; number <= 8; number++)
         fprintf(stderr, "%s %zu: %" PRIu64, number > 0 ? "," : "", number, explained[number]);
+    fprintf(stderr, "\nsummary: of LOSS");
+    for (size_t i = 0; i < OF_LOSS; i++)
+        fprintf(stderr, "%s %s: %" PRIu64, i > 0 ? "," : "", of_loss[i].name, of_loss[i].count);
     fprintf(stderr, "\n");
 }
 
@@ -1708,6 +1784,127 @@ static void exchanges(void)
     for (i = 0; i < sizeof far / sizeof far[0]; i++)
         if (planner_exchange_time(far[i], 0) != 0 || planner_exchange_time(26, far[i]) != 0)
             fail("an exchange time beyond the table");
+}
+
+/* ---- Part 8: tries that may fail, request E5 of document 02 ---- */
+
+#define ACKNOWLEDGED "8 4 1 2 1 0 0 1 1 19 7 1" /* P1 with ACK 1: X is 138 */
+
+/* With LOSS 1 an exchange lasts 138 + 158 = 296 symbols, and a slot of 960 holds 3; with LOSS 7 it lasts 1,244. */
+#define LOSS_1_TEXT                                                                                                    \
+    HEADER "E 0 1 245760 1 3 245464 2 327384\n"                                                                        \
+           "U 1 1 491224 1 3 245464 3 409206\n"                                                                        \
+           "S 0 3 1964600 0 0 0 8 736590\n"
+#define LOSS_7_TEXT                                                                                                    \
+    HEADER "E 0 1 245760 2 1 247004 3 492764\n"                                                                        \
+           "U 1 1 492764 2 1 247004 4 739768\n"                                                                        \
+           "S 0 3 1972300 0 0 0 9 1232532\n"
+/* P1 itself. */
+#define LOSS_0_TEXT                                                                                                    \
+    HEADER "E 0 1 245760 1 9 245032 2 272339\n"                                                                        \
+           "U 1 1 490792 1 9 245032 3 299565\n"                                                                        \
+           "S 0 3 1962440 0 0 0 8 571904\n"
+
+/* A row and its answer: its text where it is planned, else number and place. */
+static const struct {
+    const char *names, *row;
+    uint32_t number, place;
+    const char *text;
+} lossy_rows[] = {
+    {NAMES, "8 4 1 2 1 0 0 1 1 19 7 0", 0, 0, LOSS_0_TEXT},
+    {LOSS_NAMES, "8 4 1 2 1 0 0 1 1 19 7 0 0", 0, 0, LOSS_0_TEXT},
+    {LOSS_NAMES, ACKNOWLEDGED " 1", 0, 0, LOSS_1_TEXT},
+    {LOSS_NAMES, ACKNOWLEDGED " 7", 0, 0, LOSS_7_TEXT},
+    {NAMES, ACKNOWLEDGED " 1", 2, 13, ""},
+    {NAMES, ACKNOWLEDGED " ", 2, 13, ""},
+    {LOSS_NAMES, ACKNOWLEDGED, 2, 13, ""},
+    {LOSS_NAMES, ACKNOWLEDGED " ", 2, 13, ""},
+    {LOSS_NAMES, ACKNOWLEDGED " 07", 2, 13, ""},
+    {LOSS_NAMES, ACKNOWLEDGED " x", 2, 13, ""},
+    {LOSS_NAMES, ACKNOWLEDGED " 1 ", 2, 14, ""},
+    {LOSS_NAMES, ACKNOWLEDGED " 8 1", 2, 14, ""},
+    {LOSS_NAMES, ACKNOWLEDGED " 8", 3, 13, ""},
+    {LOSS_NAMES, ACKNOWLEDGED " 9999", 3, 13, ""},
+    {LOSS_NAMES, "8 4 1 2 1 0 0 1 1 19 7 0 8", 3, 13, ""},
+    {LOSS_NAMES, "8 4 1 2 1 0 0 1 1 19 7 0 1", 4, 13, ""},
+    {LOSS_NAMES, "8 4 1 2 1 0 0 1 1 19 7 0 7", 4, 13, ""},
+    {LOSS_NAMES, "8 4 1 2 1 0 0 1 1 126 2 0 7", 4, 11, ""},
+    {LOSS_NAMES " ", ACKNOWLEDGED " 1", 1, 0, ""},
+    {NAMES " loss", ACKNOWLEDGED " 1", 1, 0, ""},
+};
+
+static void lossy_row(size_t number)
+{
+    static struct outcome got;
+    const char *text = lossy_rows[number].text;
+    size_t length = strlen(text);
+    planner_answer expected = {lossy_rows[number].number, lossy_rows[number].place, length};
+    set_input(&names_input, lossy_rows[number].names, strlen(lossy_rows[number].names));
+    set_input(&row_input, lossy_rows[number].row, strlen(lossy_rows[number].row));
+    for (unsigned sides = 0; sides < 8; sides++) {
+        call_twice(sides, length);
+        require(same_answer(now.check, expected) && same_answer(now.plan, expected), "not the answer that is known");
+        call_twice(sides, length > 0 ? length - 1 : 1);
+        call_twice(sides, LONGEST_LOAN);
+    }
+    call_between_guards(0, filling[0], length, &got);
+    require(memcmp(got.text, text, length) == 0, "not the text that is known");
+}
+
+/* The same of P1 as a list, with these settings beside it. */
+#define ROUTER_1 "U 1 1 491224 1 3 245464 3 409206 409206\n"
+#define NEAR_1 "E 1 1 245760 1 3 245464 2 327384 327384\n"
+#define FAR_1 "E 2 1 245760 1 3 245464 2 327384 736590\n"
+#define ROUTER_7 "U 1 1 492764 2 1 247004 4 739768 739768\n"
+#define NEAR_7 "E 1 1 245760 2 1 247004 3 492764 492764\n"
+#define FAR_7 "E 2 1 245760 2 1 247004 3 492764 1232532\n"
+
+static const struct {
+    uint32_t head, data, ack, loss;
+    uint32_t number, place;
+    const char *text;
+} lossy_trees[] = {
+    {19, 7, 1, 1, 0, 0, TREE_HEADER "S 0 3 1964600 0 0 0 8 0 0\n" ROUTER_1 ROUTER_1 NEAR_1 FAR_1 FAR_1},
+    {19, 7, 1, 7, 0, 0, TREE_HEADER "S 0 3 1972300 0 0 0 9 0 0\n" ROUTER_7 ROUTER_7 NEAR_7 FAR_7 FAR_7},
+    {19, 7, 1, 8, 3, 13, ""},
+    {19, 7, 0, 8, 3, 13, ""},
+    {19, 7, 1, UINT32_MAX, 3, 13, ""},
+    {19, 7, 1, (1u << 31) + 1, 3, 13, ""},
+    {19, 7, 1, 257, 3, 13, ""},
+    {19, 7, 2, 8, 3, 12, ""},
+    {19, 7, 0, 1, 4, 13, ""},
+    {19, 7, 0, 7, 4, 13, ""},
+    {126, 2, 0, 7, 4, 11, ""},
+};
+
+static void lossy_tree(size_t number)
+{
+    static const char list[] = LIST_NAMES "1 0 0 0\n2 1 0 0\n3 1 0 0\n4 1 1 1\n5 2 1 1\n6 3 1 1\n";
+    const char *text = lossy_trees[number].text;
+    size_t length = strlen(text);
+    planner_answer expected = {lossy_trees[number].number, lossy_trees[number].place, length};
+    set_input(&row_input, list, strlen(list));
+    set_beside(8, 4, lossy_trees[number].head, lossy_trees[number].data, lossy_trees[number].ack, 1,
+               lossy_trees[number].loss);
+    for (unsigned sides = 0; sides < 4; sides++) {
+        call_tree_twice(sides, length);
+        require(same_answer(now.check, expected) && same_answer(now.plan, expected), "not the answer that is known");
+        call_tree_twice(sides, length > 0 ? length - 1 : 1);
+        call_tree_twice(sides, LONGEST_TREE_LOAN);
+    }
+    call_tree_between_guards(0, filling[0], length);
+    require(memcmp(spot(&tree_region, length, false), text, length) == 0, "not the text that is known");
+}
+
+static void failed_tries(void)
+{
+    now.part = "8, tries that may fail";
+    now.call = 0;
+    for (size_t i = 0; i < sizeof lossy_rows / sizeof lossy_rows[0]; i++, now.call++)
+        lossy_row(i);
+    for (size_t i = 0; i < sizeof lossy_trees / sizeof lossy_trees[0]; i++, now.call++)
+        lossy_tree(i);
+    fprintf(stderr, "failed tries: %" PRIu64 " rows and lists answered as is known\n", now.call);
 }
 
 int main(int argc, char **argv)
@@ -1738,6 +1935,7 @@ int main(int argc, char **argv)
     refusals();
     trees(calls / 10);
     exchanges();
+    failed_tries();
     summary();
     return 0;
 }

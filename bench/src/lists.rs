@@ -12,9 +12,9 @@ use reference::{plan_tree, Beside};
 
 /// Times all rounds on each list and prints the figures.
 pub fn run(rounds: u64) -> Result<(), String> {
-    let Beside { beacon_order, superframe_order, head, data, ack, .. } = SETTINGS;
+    let Beside { beacon_order, superframe_order, head, data, ack, loss, .. } = SETTINGS;
     println!("node lists, {rounds} rounds of {CALLS} calls for each, medians of the rounds");
-    println!("settings: BO {beacon_order}, SO {superframe_order}, HEAD {head}, DATA {data}, ACK {ack}");
+    println!("settings: BO {beacon_order}, SO {superframe_order}, HEAD {head}, DATA {data}, ACK {ack}, LOSS {loss}");
     println!("ours: planner_plan_tree, lent a buffer of {LONGEST_TREE_TEXT} bytes that is not cleared between calls");
     println!("reference: plan_tree and write_tree_plan, into a reused Vec that is cleared between calls");
     fixed::lists().into_iter().try_for_each(|fixed| run_list(fixed, rounds))

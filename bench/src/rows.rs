@@ -7,6 +7,7 @@ use crate::rounds::{timed, Calls, Times};
 use calls::RowCalls;
 use compare::entries::LONGEST_TEXT;
 use reference::rows::{row, Rng};
+use reference::Heading;
 
 /// Draws the rows, times all rounds on them and prints the figures.
 pub fn run(seed: u64, rows: u64, rounds: u64) -> Result<(), String> {
@@ -16,7 +17,7 @@ pub fn run(seed: u64, rows: u64, rounds: u64) -> Result<(), String> {
     println!("formatting: write_plan alone, of the plans that the reference computed before");
     let mut rng = Rng::new(seed);
     let planned = draw_rows(rows, || planned_row(&mut rng));
-    let drawn = draw_rows(rows, || row(&mut rng));
+    let drawn = draw_rows(rows, || row(&mut rng, Heading::WithoutLoss));
     run_rows("planned rows", planned, rounds)?;
     run_rows("rows as drawn", drawn, rounds)
 }
@@ -28,8 +29,8 @@ fn draw_rows(count: u64, draw: impl FnMut() -> Vec<u8>) -> Vec<Vec<u8>> {
 /// The next row drawn that is planned.
 fn planned_row(rng: &mut Rng) -> Vec<u8> {
     loop {
-        let drawn = row(rng);
-        if reference::plan_row(&drawn).is_ok() {
+        let drawn = row(rng, Heading::WithoutLoss);
+        if reference::plan_row(Heading::WithoutLoss, &drawn).is_ok() {
             return drawn;
         }
     }

@@ -4,7 +4,8 @@ use reference::{Beside, LIST_NAMES, MOST_NODES};
 
 /// All lists have these beside them, but for the sink. A chain's 253 routers have room in 2^8 superframes, and of the
 /// orders that leave so many these have the most room for traffic.
-pub const SETTINGS: Beside = Beside { beacon_order: 14, superframe_order: 6, head: 19, data: 7, ack: 0, sink: 1 };
+pub const SETTINGS: Beside =
+    Beside { beacon_order: 14, superframe_order: 6, head: 19, data: 7, ack: 0, sink: 1, loss: 0 };
 
 const LAST: u32 = MOST_NODES as u32;
 /// A router in the middle of the chain.

@@ -3,7 +3,7 @@
 
 use crate::rounds::{answer, Calls};
 use compare::entries::{Answer, Library, Planner, LONGEST_TEXT};
-use reference::{plan_named_row, plan_row, write_plan, Plan, NAMES};
+use reference::{plan_named_row, write_plan, Plan, NAMES};
 use std::hint::black_box;
 
 /// The rows, the plans of those that are planned, and the memories that are used again and again.
@@ -17,8 +17,8 @@ pub struct RowCalls {
 
 impl RowCalls {
     pub fn new(rows: Vec<Vec<u8>>) -> RowCalls {
-        let plans = rows.iter().filter_map(|row| plan_row(row).ok()).collect();
         let names = NAMES.as_bytes().to_vec();
+        let plans = rows.iter().filter_map(|row| plan_named_row(&names, row).ok()).collect();
         RowCalls { names, rows, plans, buffer: vec![0; LONGEST_TEXT], text: Vec::with_capacity(LONGEST_TEXT) }
     }
 

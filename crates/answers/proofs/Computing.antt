@@ -2,11 +2,11 @@
 use Rattle.decimal.specs.Ascii.{ascii}
 use Rattle.decimal.specs.Number.{digits, zeroLed, shaped, readable, spelledAfter}
 use Rattle.lines.specs.Text.{same, before, pieces, fields, joined}
-use Rattle.row.specs.Names.{nameLine, isNameLine}
+use Rattle.row.specs.Names.{nameLine, headingOf, isOther, columnsUnder}
 use Rattle.row.specs.Rows.{named, written, valuesIn, settingsOf}
 use Rattle.balanced.proofs.Computing.{plans}
 use Rattle.answers.specs.Outcomes.{spelledSettings, rowConditions, rowOutcome, namedOutcome}
 
 unfoldable pub answered : Type 0
-unfolding plans ascii digits zeroLed shaped readable spelledAfter before pieces fields joined nameLine same isNameLine named written valuesIn settingsOf spelledSettings rowConditions rowOutcome namedOutcome
+unfolding plans ascii digits zeroLed shaped readable spelledAfter before pieces fields joined nameLine same headingOf isOther columnsUnder named written valuesIn settingsOf spelledSettings rowConditions rowOutcome namedOutcome
 answered = Unit

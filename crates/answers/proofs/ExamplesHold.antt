@@ -6,7 +6,7 @@ use Rattle.answers.specs.Examples.{Examples}
 use Rattle.answers.proofs.Computing.{answered}
 
 pub examples-hold : Examples
-unfolding answered numberOf placeOf conflictPlace examples.answered examples.asked examples.under
+unfolding answered numberOf placeOf conflictPlace examples.answered examples.asked examples.askedLossy examples.under
 examples-hold = record {
   one = refl;
   two = refl;
@@ -25,4 +25,10 @@ examples-hold = record {
   fiveBeforeSix = refl;
   sixBeforeSeven = refl;
   sevenAlone = refl;
+  lossless = refl;
+  oneFailure = refl;
+  twoFailures = refl;
+  lossBeforeFive = refl;
+  plannedLossy = refl;
+  lossUnderTwelve = refl;
 }

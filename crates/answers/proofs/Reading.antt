@@ -8,9 +8,10 @@ use Rattle.refusals.specs.declared.Refusal.{Refusal}
 use Rattle.refusals.specs.Conditions.{Condition, firstBroken}
 use Rattle.refusals.proofs.Answering.{first-append}
 use Rattle.settings.specs.declared.Settings.{Settings}
-use Rattle.settings.specs.Columns.{table}
 use Rattle.settings.specs.Checks.{checks}
+use Rattle.row.specs.declared.Heading.{Heading}
 use Rattle.row.specs.declared.Row.the-variants as row
+use Rattle.row.specs.Names.{headingOf, columnsUnder}
 use Rattle.row.specs.Rows as rows
 use Rattle.balanced.specs.Checks as balanced
 use Rattle.balanced.specs.Lines.{lines}
@@ -59,14 +60,14 @@ before-settings s cs =
     ∙ ap (λ (a : RowOutcome). firstBroken Refused a cs) (checked-again s)
     ∙ sym (first-append Refused (Planned (lines s)) cs (balanced.conditions s))
 
-pub row-outcome : (r : List ℕ) → readOutcome (rows.rowOf r) ≡ rowOutcome r
-unfolding rowOutcome rowConditions spelledSettings rows.rowOf rows.conditions
-row-outcome r = before-settings (rows.settingsOf (rows.valuesIn r)) (rows.written 1 table (fields r))
+pub row-outcome : (heading : Heading) (r : List ℕ) → readOutcome (rows.rowUnder heading r) ≡ rowOutcome heading r
+unfolding rowOutcome rowConditions spelledSettings rows.rowUnder rows.conditions
+row-outcome heading r =
+    let s = rows.settingsOf (rows.valuesIn r) in
+    let t = rows.written 1 (columnsUnder heading) (fields r) in
+    rw (sym (append-assoc (rows.named heading) t (checks s)), sym (append-assoc (rows.named heading) t (balanced.conditions s)))
+    (before-settings s (rows.named heading ++ t))
 
 pub named-outcome : (names r : List ℕ) → readOutcome (rows.namedRow names r) ≡ namedOutcome names r
-unfolding namedOutcome rowConditions spelledSettings rows.namedRow rows.conditions
-named-outcome names r =
-    let s = rows.settingsOf (rows.valuesIn r) in
-    let t = rows.written 1 table (fields r) in
-    rw (sym (append-assoc (rows.named names) t (checks s)), sym (append-assoc (rows.named names) t (balanced.conditions s)))
-    (before-settings s (rows.named names ++ t))
+unfolding namedOutcome rows.namedRow
+named-outcome names r = row-outcome (headingOf names) r

@@ -7,6 +7,7 @@ use Rattle.decimal.specs.Ascii.{ascii}
 use Rattle.refusals.specs.Refusals.{numberOf, placeOf}
 use Rattle.refusals.specs.Outcome.{Planned, Refused}
 use Rattle.balanced.specs.Outcome.{RowOutcome}
+use Rattle.row.specs.declared.Heading.the-variants.{Twelve, Thirteen}
 use Rattle.answers.specs.Outcomes.{rowOutcome, namedOutcome}
 
 -- number and place of a refusal; 0 and 0 where the row is planned
@@ -15,7 +16,10 @@ answered (Planned p) = 0 ∷ 0 ∷ []
 answered (Refused r) = numberOf r ∷ placeOf r ∷ []
 
 unfoldable pub asked : String → List ℕ
-asked row = answered (rowOutcome (ascii row))
+asked row = answered (rowOutcome Twelve (ascii row))
+
+unfoldable pub askedLossy : String → List ℕ
+askedLossy row = answered (rowOutcome Thirteen (ascii row))
 
 unfoldable pub under : String → String → List ℕ
 under names row = answered (namedOutcome (ascii names) (ascii row))
@@ -43,3 +47,10 @@ pub record Examples : Type 0 where
   pub fiveBeforeSix : asked "4 4 1 4 4 0 0 1 1 19 7 0" ≡ of 5 0
   pub sixBeforeSeven : asked "4 4 1 2 1 0 0 1 4095 19 7 0" ≡ of 6 0
   pub sevenAlone : asked "8 4 1 2 1 0 0 1 4095 19 7 0" ≡ of 7 0
+  -- LOSS (document 02, E5): a longer exchange takes more slots
+  pub lossless : askedLossy "0 0 0 0 3 0 0 1 1 19 7 1 0" ≡ of 7 0
+  pub oneFailure : askedLossy "0 0 0 0 1 0 0 1 1 19 7 1 1" ≡ of 0 0
+  pub twoFailures : askedLossy "0 0 0 0 1 0 0 1 1 19 7 1 2" ≡ of 7 0
+  pub lossBeforeFive : askedLossy "8 4 1 4 4 0 0 1 1 19 7 0 1" ≡ of 4 13
+  pub plannedLossy : under "BO SO H NR NE OWN SINK BURST RATE HEAD DATA ACK LOSS" "8 4 1 2 1 0 0 1 1 19 7 1 7" ≡ of 0 0
+  pub lossUnderTwelve : under "BO SO H NR NE OWN SINK BURST RATE HEAD DATA ACK" "8 4 1 2 1 0 0 1 1 19 7 1 7" ≡ of 2 13

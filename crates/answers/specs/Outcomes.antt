@@ -6,7 +6,8 @@ use Rattle.lines.specs.Text.{fields}
 use Rattle.refusals.specs.declared.Refusal.{Refusal}
 use Rattle.refusals.specs.Conditions.{Condition, firstBroken}
 use Rattle.settings.specs.declared.Settings.{Settings}
-use Rattle.settings.specs.Columns.{table}
+use Rattle.row.specs.declared.Heading.{Heading}
+use Rattle.row.specs.Names.{headingOf, columnsUnder}
 use Rattle.row.specs.Rows.{named, written, valuesIn, settingsOf}
 use Rattle.balanced.specs.Checks as balanced
 use Rattle.balanced.specs.Lines.{lines}
@@ -17,14 +18,14 @@ use Rattle.balanced.specs.Outcome.{RowOutcome}
 unfoldable pub spelledSettings : List ℕ → Settings
 spelledSettings row = settingsOf (valuesIn row)
 
--- numbers 2 to 7 of a row without its LF, in their order
-unfoldable pub rowConditions : List ℕ → List (Condition Refusal)
-rowConditions row = written 1 table (fields row) ++ balanced.conditions (spelledSettings row)
+-- numbers 1 to 7 of a row under a line of names, without its LF, in their order
+unfoldable pub rowConditions : Heading → List ℕ → List (Condition Refusal)
+rowConditions heading row = named heading ++ (written 1 (columnsUnder heading) (fields row) ++ balanced.conditions (spelledSettings row))
 
--- "Checked in the order of this table, the first failure answering": a row without its LF
-unfoldable pub rowOutcome : List ℕ → RowOutcome
-rowOutcome row = firstBroken Refused (Planned (lines (spelledSettings row))) (rowConditions row)
+-- "Checked in the order of this table, the first failure answering"
+unfoldable pub rowOutcome : Heading → List ℕ → RowOutcome
+rowOutcome heading row = firstBroken Refused (Planned (lines (spelledSettings row))) (rowConditions heading row)
 
--- a row under a name line, both without their LF: numbers 1 to 7
+-- both as bytes, without their LF
 unfoldable pub namedOutcome : List ℕ → List ℕ → RowOutcome
-namedOutcome names row = firstBroken Refused (Planned (lines (spelledSettings row))) (named names ++ rowConditions row)
+namedOutcome names row = rowOutcome (headingOf names) row

@@ -12,20 +12,21 @@ ghost use Rattle.answers.specs.Inner.{readOutcome};
 use planner::Plan;
 use planner::plan_of;
 use planner::refused_plan;
+use row::Heading;
 use row::Row;
 use row::read_named_row;
 use row::read_row;
 
-// The plan of a row without its LF: refusals 2 to 7.
-pub fn plan_row(row: &[u8], out: &mut [u8]) -> Plan
-    ensures { λ r. ⌜ r ≡ answer text (rowOutcome (now (row .entry))) ⌝ }
+// The plan of a row without its LF, under a line of names: refusals 1 to 7.
+pub fn plan_row(heading: Heading, row: &[u8], out: &mut [u8]) -> Plan
+    ensures { λ r. ⌜ r ≡ answer text (rowOutcome heading (now (row .entry))) ⌝ }
     ensures { λ r. ⌜ r .length ≤ 4476 ⌝ }
-    ensures { λ _. ⌜ now (out .exit) ≡ sets (now (out .entry)) 0 (written text (rowOutcome (now (row .entry)))) ⌝ }
+    ensures { λ _. ⌜ now (out .exit) ≡ sets (now (out .entry)) 0 (written text (rowOutcome heading (now (row .entry)))) ⌝ }
 {
-    plan_read(read_row(row), out)
+    plan_read(read_row(heading, row), out)
 }
 
-// The plan of a row under a line of names, both without their LF: refusals 1 to 7.
+// The plan of a row and its line of names, both as bytes without their LF: refusals 1 to 7.
 pub fn plan_named_row(names: &[u8], row: &[u8], out: &mut [u8]) -> Plan
     ensures { λ r. ⌜ r ≡ answer text (namedOutcome (now (names .entry)) (now (row .entry))) ⌝ }
     ensures { λ r. ⌜ r .length ≤ 4476 ⌝ }

@@ -136,11 +136,11 @@ module _ (s : Settings) (S : Sound s) where
   adds-most : adds s ≤ 8 * 4095
   adds-most = mul-le-mul sensors-few (S .checked .rate .1)
 
-  grows-most : grows s ≤ 8 * (255 * 15728640 + 4095 * 15729320)
+  grows-most : grows s ≤ 8 * (255 * 15728640 + 4095 * 15734360)
   grows-most =
-      let w : longest s ≤ 15729320 = omega (arith, interval-low s (S .checked), exchange-low s (S .checked)) in
+      let w : longest s ≤ 15734360 = omega (arith, interval-low s (S .checked), exchange-low s (S .checked)) in
       let β : sensor s .burst .0 ≤ 255 * 15728640 = omega (arith, sensor-burst s, mul-le-mul (S .checked .burst .1) (interval-low s (S .checked))) in
-      let x : sensor s .burst .0 + s .rate * longest s ≤ 255 * 15728640 + 4095 * 15729320 = omega (arith, mul-le-mul (S .checked .rate .1) w) in
+      let x : sensor s .burst .0 + s .rate * longest s ≤ 255 * 15728640 + 4095 * 15734360 = omega (arith, mul-le-mul (S .checked .rate .1) w) in
       mul-le-mul sensors-few x
 
   few : R s (s .h) ≤ 16384
@@ -193,7 +193,7 @@ module _ (s : Settings) (S : Sound s) where
 
   pub sensor-left-bounded : Bounded (left s (sensor s))
   sensor-left-bounded =
-      let w : longest s ≤ 15729320 = omega (arith, interval-low s (S .checked), exchange-low s (S .checked)) in
+      let w : longest s ≤ 15734360 = omega (arith, interval-low s (S .checked), exchange-low s (S .checked)) in
       let ρ : sensor s .rate .0 ≤ 4095 = omega (arith, sensor-rate s, S .checked .rate .1) in
       record {
         rate = omega (arith, left-rate s (sensor s));

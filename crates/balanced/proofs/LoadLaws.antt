@@ -5,7 +5,7 @@ use native.Mathlib.Omega.{arith}
 use lib.Dec.{eqb}
 use Rattle.measure.specs.Measures.{frames, burst}
 use Rattle.superframe.proofs.OrderLaws.{interval-some, interval-most, slot-some, slot-most}
-use Rattle.superframe.proofs.ExchangeLaws.{exchange-some, exchange-most}
+use Rattle.superframe.proofs.LossLaws.{lossy-some, lossy-most}
 use Rattle.links.specs.declared.Load.{Load}
 use Rattle.links.specs.Link.{plus, times}
 use Rattle.links.specs.Answers.{Timed}
@@ -25,18 +25,18 @@ timed s h = record {
   interval = omega (arith, interval-most (s .bo) (h .bo));
   slotSome = omega (arith, slot-some (s .so));
   slot = omega (arith, slot-most (s .so) (h .so));
-  exchangeSome = exchange-some _ _;
-  exchange = omega (arith, exchange-most (s .head + s .payload) (eqb (s .ack) 1) (h .frame));
+  exchangeSome = lossy-some _ _ _;
+  exchange = omega (arith, lossy-most (s .head + s .payload) (eqb (s .ack) 1) (s .loss) (h .frame) (h .loss));
 }
 
--- BI ≤ 15,728,640 and X ≤ 340
+-- BI ≤ 15,728,640, and an exchange lasts at most 2,860
 pub interval-low : (s : Settings) → Checked s → timingOf s .interval .0 ≤ 15728640
 unfolding timingOf
 interval-low s h = interval-most (s .bo) (h .bo)
 
-pub exchange-low : (s : Settings) → Checked s → timingOf s .exchange .0 ≤ 340
+pub exchange-low : (s : Settings) → Checked s → timingOf s .exchange .0 ≤ 2860
 unfolding timingOf
-exchange-low s h = exchange-most (s .head + s .payload) _ (h .frame)
+exchange-low s h = lossy-most (s .head + s .payload) _ _ (h .frame) (h .loss)
 
 -- an interval lasts at least a symbol
 pub interval-positive : (s : Settings) → 0 < timingOf s .interval .0

@@ -19,7 +19,7 @@ use Rattle.balanced.specs.Checks.{routers}
 use Rattle.balanced.specs.Lines.{lines}
 use Rattle.balanced.specs.Tree.{isChild, childRouters, endNodes, Within, ancestor, sinkBelow, towards, lineOf, networkOf, Windows, Sensor, Readings}
 use Rattle.balanced.specs.Promise.{sinkLine}
-use Rattle.balanced.specs.Witness.{settings, columns, lengthsAt, row, tree, offsets, network, readings, Witnessed, smallRow, smallTree, smallNetwork, fullReadings, Filled, deepRow, fullSlots, tightRow, OnThePath, allSlots, allSuperframes, JustMet, longBeacon, ownBeacons, OwnCounts}
+use Rattle.balanced.specs.Witness.{lossySettings, settings, columns, lengthsAt, row, tree, offsets, network, readings, Witnessed, smallSettings, smallRow, smallTree, smallNetwork, soonFrom, fullReadings, Filled, lossyRow, lossyNetwork, lossyReadings, Lossy, deepRow, fullSlots, tightRow, OnThePath, allSlots, allSuperframes, JustMet, longBeacon, ownBeacons, OwnCounts}
 use Rattle.balanced.proofs.Computing.{plans}
 use Rattle.balanced.proofs.LawsHold.{every-plan-keeps}
 use Rattle.balanced.proofs.Stretches.{stretch, stretch-le, apart}
@@ -28,11 +28,11 @@ use Rattle.balanced.proofs.Stretches.{stretch, stretch-le, apart}
 
 -- to unfold `rows` is to unfold all that a witness's plan is computed with, and to unfold `runs` all that its run is
 rows : Type 0
-unfolding plans settings columns row smallRow deepRow fullSlots tightRow allSlots allSuperframes longBeacon ownBeacons
+unfolding plans lossySettings settings columns row smallSettings smallRow lossyRow deepRow fullSlots tightRow allSlots allSuperframes longBeacon ownBeacons
 rows = Unit
 
 runs : Type 0
-unfolding rows bit below isChild ancestor sinkBelow towards lineOf networkOf tree offsets network readings reading received written first run symbol serveAll begun serve takeOldest behind idle isStart makeReadings fresh endExchanges Rattle.network.specs.Run.arrivals arrived ends feeds deliver made queue keep lengthsAt sinkLine smallTree smallNetwork fullReadings
+unfolding rows bit below isChild ancestor sinkBelow towards lineOf networkOf tree offsets network readings reading received written first run symbol serveAll begun serve takeOldest behind idle isStart makeReadings fresh endExchanges Rattle.network.specs.Run.arrivals arrived ends feeds deliver made queue keep lengthsAt sinkLine smallTree smallNetwork soonFrom fullReadings lossyNetwork lossyReadings
 runs = Unit
 
 -- ---- the tree
@@ -130,9 +130,9 @@ two P a b zero h = a
 two P a b (suc zero) h = b
 two P a b (suc (suc v)) h = absurd (omega arith)
 
-small-within : Within smallRow smallTree
+pub small-within : (head payload ack loss : ℕ) → Within (smallSettings head payload ack loss) smallTree
 unfolding runs childRouters endNodes
-small-within = record {
+small-within head payload ack loss = record {
   rootIsNode = lit< tt;
   rootIsRouter = refl;
   rootDepth = refl;
@@ -151,43 +151,43 @@ small-windows : Windows smallRow (lines smallRow) smallTree (λ v. 0)
 unfolding runs
 small-windows = two _ (λ n. lit≤ tt) (λ n. lit≤ tt)
 
-small-made : (t : ℕ) → made fullReadings t 1 ≡ bit (eqb 60 t) + (bit (eqb 539 t) + bit (eqb 1019 t))
-unfolding made fullReadings reading bit
-small-made t = omega (arith, one (eqb 60 t), one (eqb 539 t), one (eqb 1019 t))
+pub soon-made : (a t : ℕ) → made (soonFrom a) t 1 ≡ bit (eqb a t) + (bit (eqb (a + 479) t) + bit (eqb (a + 959) t))
+unfolding made soonFrom reading bit
+soon-made a t = omega (arith, one (eqb a t), one (eqb (a + 479) t), one (eqb (a + 959) t))
   where
     one : (b : Bool) → cond {A = ℕ} (b && true) 1 0 ≡ bit b
     one true = refl
     one false = refl
 
-small-few : (x t : ℕ) → (stretch 60 x t + (stretch 539 x t + stretch 1019 x t)) * 960 ≤ 960 + 2 * t
-small-few x t = by (decLe 960 t) (decLe 480 t)
+pub soon-few : (a x t : ℕ) → (stretch a x t + (stretch (a + 479) x t + stretch (a + 959) x t)) * 960 ≤ 960 + 2 * t
+soon-few a x t = by (decLe 960 t) (decLe 480 t)
   where
-    by : Dec (960 ≤ t) → Dec (480 ≤ t) → (stretch 60 x t + (stretch 539 x t + stretch 1019 x t)) * 960 ≤ 960 + 2 * t
-    by (yes h) k = omega (arith, stretch-le 60 x t, stretch-le 539 x t, stretch-le 1019 x t)
-    by (no h) (yes k) = omega (arith, apart 60 1019 x t (omega arith), stretch-le 539 x t)
-    by (no h) (no k) = omega (arith, apart 60 539 x t (omega arith), apart 539 1019 x t (omega arith), apart 60 1019 x t (omega arith))
+    by : Dec (960 ≤ t) → Dec (480 ≤ t) → (stretch a x t + (stretch (a + 479) x t + stretch (a + 959) x t)) * 960 ≤ 960 + 2 * t
+    by (yes h) k = omega (arith, stretch-le a x t, stretch-le (a + 479) x t, stretch-le (a + 959) x t)
+    by (no h) (yes k) = omega (arith, apart a (a + 959) x t (omega arith), stretch-le (a + 479) x t)
+    by (no h) (no k) = omega (arith, apart a (a + 479) x t (omega arith), apart (a + 479) (a + 959) x t (omega arith), apart a (a + 959) x t (omega arith))
 
 -- the end node senses, and the root does not
-small-readings : Readings smallRow smallTree fullReadings
-unfolding rows smallTree fullReadings reading stretch
-small-readings = record {
+pub small-readings : (head payload ack loss a : ℕ) → Readings (smallSettings head payload ack loss) smallTree (soonFrom a)
+unfolding rows smallTree soonFrom reading stretch
+small-readings head payload ack loss a = record {
   sensors = each end-node (each end-node (each end-node none));
-  bucket = λ v x t S. two (λ v. Sensor smallRow smallTree v → total (λ i. made fullReadings (x + i) v) t * 960 ≤ 960 + 2 * t) root (λ e. node x t) v (S .isNode) S;
+  bucket = λ v x t S. two (λ v. Sensor (smallSettings head payload ack loss) smallTree v → total (λ i. made (soonFrom a) (x + i) v) t * 960 ≤ 960 + 2 * t) root (λ e. node x t) v (S .isNode) S;
 }
   where
-    end-node : Sensor smallRow smallTree 1
+    end-node : Sensor (smallSettings head payload ack loss) smallTree 1
     end-node = record { isNode = lit< tt; senses = λ r. absurd (false≢true r) }
 
-    root : {A : Type 0} → Sensor smallRow smallTree 0 → A
+    root : {A : Type 0} → Sensor (smallSettings head payload ack loss) smallTree 0 → A
     root S = absurd (omega (arith, S .senses refl))
 
-    node : (x t : ℕ) → total (λ i. made fullReadings (x + i) 1) t * 960 ≤ 960 + 2 * t
+    node : (x t : ℕ) → total (λ i. made (soonFrom a) (x + i) 1) t * 960 ≤ 960 + 2 * t
     node x t = omega (
       arith,
-      small-few x t,
-      total-ap (λ i. made fullReadings (x + i) 1) (λ i. bit (eqb 60 (x + i)) + (bit (eqb 539 (x + i)) + bit (eqb 1019 (x + i)))) t (λ i h. small-made (x + i)),
-      total-add (λ i. bit (eqb 60 (x + i))) (λ i. bit (eqb 539 (x + i)) + bit (eqb 1019 (x + i))) t,
-      total-add (λ i. bit (eqb 539 (x + i))) (λ i. bit (eqb 1019 (x + i))) t,
+      soon-few a x t,
+      total-ap (λ i. made (soonFrom a) (x + i) 1) (λ i. bit (eqb a (x + i)) + (bit (eqb (a + 479) (x + i)) + bit (eqb (a + 959) (x + i)))) t (λ i h. soon-made a (x + i)),
+      total-add (λ i. bit (eqb a (x + i))) (λ i. bit (eqb (a + 479) (x + i)) + bit (eqb (a + 959) (x + i))) t,
+      total-add (λ i. bit (eqb (a + 479) (x + i))) (λ i. bit (eqb (a + 959) (x + i))) t,
     )
 
 pub filled : Filled
@@ -195,11 +195,35 @@ unfolding runs
 filled = record {
   planned = refl;
   printed = refl;
-  withinRow = small-within;
+  withinRow = small-within 17 1 0 0;
   windowsFit = small-windows;
-  keepBuckets = small-readings;
+  keepBuckets = small-readings 17 1 0 0 60;
   full = refl;
   arrived = refl;
+}
+
+-- ---- tries that may fail
+
+lossy-windows : Windows lossyRow (lines lossyRow) smallTree (λ v. 0)
+unfolding runs
+lossy-windows = two _ (λ n. lit≤ tt) (λ n. lit≤ tt)
+
+pub lossy : Lossy
+unfolding runs
+lossy = record {
+  planned = refl;
+  printed = refl;
+  lasts = refl;
+  withoutLoss = refl;
+  withinRow = small-within 5 1 1 1;
+  windowsFit = lossy-windows;
+  keepBuckets = small-readings 5 1 1 1 160;
+  full = refl;
+  arrived = refl;
+  buffer = refl;
+  kept = λ pick u.
+      every-plan-keeps lossyRow (lines lossyRow) refl smallTree (small-within 5 1 1 1) (λ v. 0) lossy-windows lossyReadings (small-readings 5 1 1 1 160) _
+      (every-choice-is-a-run lossyNetwork lossyReadings pick) u;
 }
 
 -- ---- routers on the sink's path

@@ -5,16 +5,17 @@ use mathlib.Core.Bool.{cond}
 use lib.Dec.{eqb, ltb}
 use Rattle.measure.specs.declared.Slots.{Slots}
 use Rattle.superframe.specs.Orders.{beaconInterval, slot, reservable}
-use Rattle.superframe.specs.Exchange.{exchange}
+use Rattle.superframe.specs.Loss.{lossyExchange}
 use Rattle.links.specs.declared.Timing.{Timing}
 use Rattle.settings.specs.declared.Settings.{Settings}
 
--- BI of BO, S of SO, and X of M = HEAD + DATA octets, acknowledged where ACK is 1
+-- BI of BO, S of SO, and the exchange of M = HEAD + DATA octets, acknowledged where ACK is 1, of which LOSS tries may fail: X + LOSS × (X + 20).
+-- Document 01's X is this one wherever a row is planned or run: "all that was built on X follows" (document 02, E5)
 unfoldable pub timingOf : Settings → Timing
 timingOf s = record {
   interval = beaconInterval (s .bo);
   slot = slot (s .so);
-  exchange = exchange (s .head + s .payload) (eqb (s .ack) 1);
+  exchange = lossyExchange (s .head + s .payload) (eqb (s .ack) 1) (s .loss);
 }
 
 -- "at most NR child routers, none at depth H": as many as the checks count for a router at depth i

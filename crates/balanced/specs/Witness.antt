@@ -23,8 +23,8 @@ use Rattle.balanced.specs.Tree.{Tree, Within, lineOf, networkOf, Windows
 use Rattle.balanced.specs.Promise.{sinkLine, Held}
 
 -- settings in the columns' order
-unfoldable pub settings : ℕ → ℕ → ℕ → ℕ → ℕ → ℕ → ℕ → ℕ → ℕ → ℕ → ℕ → ℕ → Settings
-settings bo so h nr ne own sink burst rate head payload ack = record {
+unfoldable pub lossySettings : ℕ → ℕ → ℕ → ℕ → ℕ → ℕ → ℕ → ℕ → ℕ → ℕ → ℕ → ℕ → ℕ → Settings
+lossySettings bo so h nr ne own sink burst rate head payload ack loss = record {
   bo = bo;
   so = so;
   h = h;
@@ -37,7 +37,12 @@ settings bo so h nr ne own sink burst rate head payload ack = record {
   head = head;
   payload = payload;
   ack = ack;
+  loss = loss;
 }
+
+-- those of a row of twelve values
+unfoldable pub settings : ℕ → ℕ → ℕ → ℕ → ℕ → ℕ → ℕ → ℕ → ℕ → ℕ → ℕ → ℕ → Settings
+settings bo so h nr ne own sink burst rate head payload ack = lossySettings bo so h nr ne own sink burst rate head payload ack 0
 
 -- a line's letter and its eight numbers
 unfoldable pub columns : Line → List ℕ
@@ -114,9 +119,13 @@ pub record Witnessed : Type 0 where
 
 -- ---- a queue that is filled to BUFFER
 
--- `0 0 0 0 1 0 0 1 2 17 1 0`: BI = 960, S = X = 60; the root, which is the sink, and an end node with β = 960, ρ = 2, m = 2 and T = 960
+-- the root, which is the sink, and an end node of BURST 1 and RATE 2, with BI = 960 and S = 60, for any frames
+unfoldable pub smallSettings : ℕ → ℕ → ℕ → ℕ → Settings
+smallSettings head payload ack loss = lossySettings 0 0 0 0 1 0 0 1 2 head payload ack loss
+
+-- `0 0 0 0 1 0 0 1 2 17 1 0`: X = 60; the end node has β = 960, ρ = 2, m = 2 and T = 960
 unfoldable pub smallRow : Settings
-smallRow = settings 0 0 0 0 1 0 0 1 2 17 1 0
+smallRow = smallSettings 17 1 0 0
 
 -- node 0 is the root and the sink, node 1 its end node
 unfoldable pub smallTree : Tree
@@ -126,9 +135,13 @@ smallTree = record { nodes = 2; root = 0; parent = λ v. 0; depth = λ v. v; isR
 unfoldable pub smallNetwork : Network
 smallNetwork = networkOf smallRow (lines smallRow) smallTree (λ v. 0)
 
--- a frame that misses the start in symbol 60, and one more as soon as the token bucket has room for it, twice
+-- a frame in a symbol, and one more as soon as the token bucket has room for it, twice
+unfoldable pub soonFrom : ℕ → List Reading
+soonFrom a = reading a 1 1 ∷ reading (a + 479) 1 1 ∷ reading (a + 959) 1 1 ∷ []
+
+-- the first frame misses the start in symbol 60
 unfoldable pub fullReadings : List Reading
-fullReadings = reading 60 1 1 ∷ reading 539 1 1 ∷ reading 1019 1 1 ∷ []
+fullReadings = soonFrom 60
 
 -- Its queue holds BUFFER frames: no smaller BUFFER would do.
 pub record Filled : Type 0 where
@@ -143,6 +156,38 @@ pub record Filled : Type 0 where
   pub full : length (queue (run smallNetwork fullReadings first 1020) 1) ≡ lineOf smallTree (lines smallRow) 1 .buffer .0
   -- That frame came 960 symbols after it was made: β / m = 480 symbols without T would be too few.
   pub arrived : received smallNetwork fullReadings first 1020 ≡ 1 ∷ 60 ∷ 1020 ∷ []
+
+-- ---- tries that may fail (document 02, E5)
+
+-- `0 0 0 0 1 0 0 1 2 5 1 1 1`: X = 70, so that an exchange with one failed try of 90 lasts 160
+unfoldable pub lossyRow : Settings
+lossyRow = smallSettings 5 1 1 1
+
+-- its starts: 0, 160, 960, 1120 and so on
+unfoldable pub lossyNetwork : Network
+lossyNetwork = networkOf lossyRow (lines lossyRow) smallTree (λ v. 0)
+
+-- the first frame misses the start in symbol 160
+unfoldable pub lossyReadings : List Reading
+lossyReadings = soonFrom 160
+
+pub record Lossy : Type 0 where
+  -- 6 slots hold two exchanges of 160 symbols; as many as without loss go into 3
+  pub planned : outcomeOf lossyRow ≡ Planned (lines lossyRow)
+  pub printed : map columns (lines lossyRow) ≡ (69 ∷ 0 ∷ 2 ∷ 960 ∷ 6 ∷ 2 ∷ 960 ∷ 3 ∷ 1440 ∷ []) ∷ (83 ∷ 0 ∷ 2 ∷ 2880 ∷ 0 ∷ 0 ∷ 0 ∷ 3 ∷ 1440 ∷ []) ∷ []
+  pub lasts : lossyNetwork .exchange ∷ lossyNetwork .holds 1 ∷ [] ≡ 160 ∷ 2 ∷ []
+  pub withoutLoss : map columns (lines (smallSettings 5 1 1 0)) ≡ (69 ∷ 0 ∷ 2 ∷ 960 ∷ 3 ∷ 2 ∷ 960 ∷ 3 ∷ 1440 ∷ []) ∷ (83 ∷ 0 ∷ 2 ∷ 2880 ∷ 0 ∷ 0 ∷ 0 ∷ 3 ∷ 1440 ∷ []) ∷ []
+  -- the tree is within the row, its window fits, and the readings keep the token bucket
+  pub withinRow : Within lossyRow smallTree
+  pub windowsFit : Windows lossyRow (lines lossyRow) smallTree (λ v. 0)
+  pub keepBuckets : Readings lossyRow smallTree lossyReadings
+  -- "a frame counts as received when its exchange ends": the first frame is sent in symbol 960 and fills its place through 1119, when the queue
+  -- is full, and it comes to the sink in 1120
+  pub full : lengthsAt lossyNetwork lossyReadings 1 (160 ∷ 639 ∷ 1030 ∷ 1119 ∷ 1120 ∷ []) ≡ 1 ∷ 2 ∷ 2 ∷ 3 ∷ 2 ∷ []
+  pub arrived : received lossyNetwork lossyReadings first 1120 ≡ 1 ∷ 160 ∷ 1120 ∷ []
+  pub buffer : lineOf smallTree (lines lossyRow) 1 .buffer .0 ≡ 3
+  -- demand 3 of this run, at the end of every symbol, whichever of several frames goes first
+  pub kept : (pick : ℕ → ℕ → ℕ) (u : ℕ) → Held lossyRow (lines lossyRow) smallTree lossyNetwork lossyReadings u (run lossyNetwork lossyReadings pick (suc u))
 
 -- ---- routers on the sink's path
 

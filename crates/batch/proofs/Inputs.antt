@@ -15,8 +15,10 @@ use Rattle.refusals.specs.declared.Refusal.the-variants.{Names, InputTooLong}
 use Rattle.refusals.specs.declared.Verdict.the-variants.{Kept, Broken}
 use Rattle.refusals.specs.Conditions.{condition, firstBroken}
 use Rattle.refusals.proofs.Answering.{verdict, answer-broken, answer-kept}
-use Rattle.settings.specs.Columns.{table}
-use Rattle.row.specs.Names.{isNameLine, nameLine}
+use Rattle.settings.specs.Columns.{twelve, table}
+use Rattle.row.specs.declared.Heading.{Heading}
+use Rattle.row.specs.declared.Heading.the-variants.{Other}
+use Rattle.row.specs.Names.{nameLine, headingOf, isOther}
 use Rattle.row.specs.Rows.{named}
 use Rattle.refusals.specs.Outcome.{Planned, Refused}
 use Rattle.balanced.specs.Outcome.{RowOutcome}
@@ -25,58 +27,58 @@ use Rattle.report.specs.Text.{text}
 use Rattle.reasons.specs.Reasons.{spoken}
 use Rattle.batch.specs.declared.Style.{Style}
 use Rattle.batch.specs.declared.Style.the-variants.{Reasons}
-use Rattle.batch.specs.Output.{printed, refusalPrinted, tooLong, inputConditions}
+use Rattle.batch.specs.Output.{printed, refusalPrinted, tooLong, headingIn, inputConditions}
 use Rattle.batch.specs.Steps.{rowsFrom, Step, behind, opening}
 
 -- a first step that prints these bytes, with the rows from there on
-abbrev opened : List ℕ → ℕ → Step
-opened b n = record { bytes = b; next = rowsFrom n; more = true }
+abbrev opened : Heading → List ℕ → ℕ → Step
+opened h b n = record { bytes = b; next = rowsFrom h n; more = true }
 
 module _ (input : List ℕ) where
+  -- there is no line
+  pub no-names : lineAt input 0 ≡ Nothing → Other ≡ headingIn input
+  unfolding headingIn headingOf same nameLine joined twelve table ascii
+  no-names e = sym (ap (λ (ls : List (List ℕ)). headingOf (getD ls 0 [])) (nothing-is-left input 0 e))
+
+  -- the first line
+  pub first-names : (from end : ℕ) (next : Cursor) → lineAt input 0 ≡ Found from end next → headingOf (partOf input from end) ≡ headingIn input
+  unfolding headingIn
+  first-names from end next e = sym (ap (λ (ls : List (List ℕ)). headingOf (getD ls 0 [])) (found-advances input 0 from end next e .first))
+
   -- number 9
-  pub too-long : 65536 < length input → Broken InputTooLong ≡ verdict (inputConditions input)
-  unfolding firstBroken inputConditions tooLong
-  too-long h = sym (ap (λ (b : Bool). verdict (condition b InputTooLong ∷ named (getD (lines input) 0 []))) (lt-ltb 65536 (length input) h))
+  pub too-long : (heading : Heading) → 65536 < length input → Broken InputTooLong ≡ verdict (tooLong input ++ named heading)
+  unfolding firstBroken tooLong
+  too-long heading h = sym (ap (λ (b : Bool). verdict (condition b InputTooLong ∷ named heading)) (lt-ltb 65536 (length input) h))
 
-  module _ (h : length input ≤ 65536) where
-    -- number 1, by the first line
-    by-names : (line : List ℕ) → getD (lines input) 0 [] ≡ line → verdict (inputConditions input) ≡ verdict (named line)
-    unfolding firstBroken inputConditions tooLong
-    by-names line e =
-        ap (λ (b : Bool). verdict (condition b InputTooLong ∷ named (getD (lines input) 0 []))) (le-ltb 65536 (length input) h)
-        ∙ ap (λ (l : List ℕ). verdict (named l)) e
+  -- number 1
+  module _ (heading : Heading) (h : length input ≤ 65536) where
+    by-names : verdict (tooLong input ++ named heading) ≡ verdict (named heading)
+    unfolding firstBroken tooLong
+    by-names = ap (λ (b : Bool). verdict (condition b InputTooLong ∷ named heading)) (le-ltb 65536 (length input) h)
 
-    -- there is no line
-    pub no-names : lineAt input 0 ≡ Nothing → Broken Names ≡ verdict (inputConditions input)
-    unfolding firstBroken named isNameLine same nameLine joined table ascii
-    no-names e = sym (by-names [] (ap (λ (ls : List (List ℕ)). getD ls 0 []) (nothing-is-left input 0 e)))
+    pub right-names : isOther heading ≡ false → Kept ≡ verdict (tooLong input ++ named heading)
+    unfolding firstBroken named
+    right-names n = sym (by-names ∙ rw n)
 
-    -- the first line, and whether it is the name line
-    module _ (from end : ℕ) (next : Cursor) (e : lineAt input 0 ≡ Found from end next) where
-      first-line : getD (lines input) 0 [] ≡ partOf input from end
-      first-line = ap (λ (ls : List (List ℕ)). getD ls 0 []) (found-advances input 0 from end next e .first)
+    pub other-names : isOther heading ≡ true → Broken Names ≡ verdict (tooLong input ++ named heading)
+    unfolding firstBroken named
+    other-names n = sym (by-names ∙ rw n)
 
-      pub right-names : isNameLine (partOf input from end) ≡ true → Kept ≡ verdict (inputConditions input)
-      unfolding firstBroken named
-      right-names n = sym (by-names (partOf input from end) first-line ∙ rw n)
-
-      pub other-names : isNameLine (partOf input from end) ≡ false → Broken Names ≡ verdict (inputConditions input)
-      unfolding firstBroken named
-      other-names n = sym (by-names (partOf input from end) first-line ∙ rw n)
-
-module _ (s : Style) (input : List ℕ) where
+module _ (s : Style) (input : List ℕ) (heading : Heading) (e : heading ≡ headingIn input) where
   -- the first step
-  pub opening-refused : (r : Refusal) → verdict (inputConditions input) ≡ Broken r
-      → opening s input ≡ record { bytes = refusalPrinted s r; next = rowsFrom (length input); more = true }
-  unfolding opening
+  pub opening-refused : (r : Refusal) → verdict (tooLong input ++ named heading) ≡ Broken r
+      → opening s input ≡ record { bytes = refusalPrinted s r; next = rowsFrom heading (length input); more = true }
+  unfolding opening inputConditions
   opening-refused r v =
-      ap₂ opened (answer-broken (refusalPrinted s) _ (inputConditions input) r v) (answer-broken (λ x. length input) _ (inputConditions input) r v)
+      let w = rw e at v in
+      rw e (ap₂ (opened (headingIn input)) (answer-broken (refusalPrinted s) _ (inputConditions input) r w) (answer-broken (λ x. length input) _ (inputConditions input) r w))
 
-  pub opening-named : verdict (inputConditions input) ≡ Kept
-      → opening s input ≡ record { bytes = []; next = rowsFrom (behind (lineAt input 0)); more = true }
-  unfolding opening
+  pub opening-named : verdict (tooLong input ++ named heading) ≡ Kept
+      → opening s input ≡ record { bytes = []; next = rowsFrom heading (behind (lineAt input 0)); more = true }
+  unfolding opening inputConditions
   opening-named v =
-      ap₂ opened (answer-kept _ [] (inputConditions input) v) (answer-kept _ (behind (lineAt input 0)) (inputConditions input) v)
+      let w = rw e at v in
+      rw e (ap₂ (opened (headingIn input)) (answer-kept _ [] (inputConditions input) w) (answer-kept _ (behind (lineAt input 0)) (inputConditions input) w))
 
 -- a row's line, by its verdict
 pub spoken-verdict : (o : RowOutcome) → ended (spoken (answer text o .verdict) ∷ []) ≡ printed Reasons o

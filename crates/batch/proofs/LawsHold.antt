@@ -19,6 +19,7 @@ use Rattle.refusals.specs.Conditions.{firstBroken}
 use Rattle.report.specs.Text.{text, refusalText}
 use Rattle.planner.specs.Plans.{answer}
 use Rattle.planner.specs.Plans as plans
+use Rattle.row.specs.declared.Heading.{Heading}
 use Rattle.answers.specs.Outcomes.{rowOutcome}
 use Rattle.reasons.specs.Reasons.{spoken}
 use Rattle.reasons.proofs.Computing.{worded}
@@ -27,7 +28,7 @@ use Rattle.batch.specs.declared.Style.the-variants.{Plans, Reasons}
 use Rattle.batch.proofs.Inputs.{spoken-verdict}
 use Rattle.batch.specs.declared.Progress.{Progress}
 use Rattle.batch.specs.declared.Piece.{Piece}
-use Rattle.batch.specs.Output.{printed, refusalPrinted, rowsPrinted, tooLong, inputConditions, output}
+use Rattle.batch.specs.Output.{printed, refusalPrinted, rowsPrinted, tooLong, headingIn, inputConditions, output}
 use Rattle.batch.specs.Steps.{start, rowsFrom, Step, behind, opening, rowAt, step, piece, printedFrom}
 use Rattle.batch.specs.Laws.{LongInputs, OtherInputs, OneLineForRow, toGo, StepsEnd, StepsPrintAll}
 
@@ -49,7 +50,7 @@ other-inputs s input h = rw (le-ltb 65536 (length input) h)
 
 -- what is still to be printed
 unfoldable remaining : Style → List ℕ → Progress → List ℕ
-remaining s input p = cond (p .begun) (rowsPrinted s (lines (drop (p .at) input))) (output s input)
+remaining s input p = cond (p .begun) (rowsPrinted s (p .heading) (lines (drop (p .at) input))) (output s input)
 
 -- a step prints the front of what remains, and brings the end nearer; where there is none nothing remains
 record Taken (style : Style) (input : List ℕ) (p : Progress) (s : Step) : Type 0 where
@@ -58,16 +59,16 @@ record Taken (style : Style) (input : List ℕ) (p : Progress) (s : Step) : Type
   ended : s .more ≡ false → remaining style input p ≡ []
 
 -- a row's step, by the line at its position
-row-taken : (s : Style) (input : List ℕ) (at : ℕ) (l : Line) → lineAt input at ≡ l → Taken s input (rowsFrom at) (rowAt s input at l)
+row-taken : (s : Style) (h : Heading) (input : List ℕ) (at : ℕ) (l : Line) → lineAt input at ≡ l → Taken s input (rowsFrom h at) (rowAt s h input at l)
 unfolding rowAt remaining toGo rowsPrinted
-row-taken s input at (Found from end next) e =
+row-taken s h input at (Found from end next) e =
     let a = found-advances input at from end next e in
     record {
-      prints = λ m. ap (rowsPrinted s) (a .first);
+      prints = λ m. ap (rowsPrinted s h) (a .first);
       nearer = λ m. omega (arith, a .forward, a .nextWithin);
       ended = λ m. absurd (false≢true (sym m));
     }
-row-taken s input at Nothing e = record {
+row-taken s h input at Nothing e = record {
   prints = λ m. absurd (false≢true m);
   nearer = λ m. absurd (false≢true m);
   ended = λ m. rw (nothing-is-left input at e);
@@ -84,22 +85,22 @@ opening-prints : (s : Style) (input : List ℕ) (v : Verdict) → verdict (input
     → output s input ≡ opening s input .bytes ++ remaining s input (opening s input .next)
 unfolding opening remaining rowsPrinted output
 opening-prints s input (Broken r) e = rw (
-  answer-broken (refusalPrinted s) (rowsPrinted s (drop 1 (lines input))) (inputConditions input) r e,
+  answer-broken (refusalPrinted s) (rowsPrinted s (headingIn input) (drop 1 (lines input))) (inputConditions input) r e,
   answer-broken (refusalPrinted s) [] (inputConditions input) r e,
   answer-broken (λ q. length input) (behind (lineAt input 0)) (inputConditions input) r e,
   lines-past input (length input) (omega arith),
   append-nil (refusalPrinted s r),
 )
 opening-prints s input Kept e = rw (
-  answer-kept (refusalPrinted s) (rowsPrinted s (drop 1 (lines input))) (inputConditions input) e,
+  answer-kept (refusalPrinted s) (rowsPrinted s (headingIn input) (drop 1 (lines input))) (inputConditions input) e,
   answer-kept (refusalPrinted s) [] (inputConditions input) e,
   answer-kept (λ q. length input) (behind (lineAt input 0)) (inputConditions input) e,
   behind-names input (lineAt input 0) refl,
 )
 
-opening-taken : (s : Style) (input : List ℕ) (at : ℕ) → Taken s input (record { at = at; begun = false }) (opening s input)
+opening-taken : (s : Style) (h : Heading) (input : List ℕ) (at : ℕ) → Taken s input (record { at = at; heading = h; begun = false }) (opening s input)
 unfolding opening remaining toGo
-opening-taken s input at = record {
+opening-taken s h input at = record {
   prints = λ m. opening-prints s input (verdict (inputConditions input)) refl;
   nearer = λ m. omega arith;
   ended = λ m. absurd (false≢true (sym m));
@@ -111,9 +112,9 @@ unfolding step
 step-taken s input p = by (p .begun)
   where
     by : (b : Bool)
-        → Taken s input (record { at = p .at; begun = b }) (cond b (rowAt s input (p .at) (lineAt input (p .at))) (opening s input))
-    by true = row-taken s input (p .at) (lineAt input (p .at)) refl
-    by false = opening-taken s input (p .at)
+        → Taken s input (record { at = p .at; heading = p .heading; begun = b }) (cond b (rowAt s (p .heading) input (p .at) (lineAt input (p .at))) (opening s input))
+    by true = row-taken s (p .heading) input (p .at) (lineAt input (p .at)) refl
+    by false = opening-taken s (p .heading) input (p .at)
 
 pub steps-end : StepsEnd
 steps-end s input p = step-taken s input p .nearer
@@ -145,7 +146,7 @@ piece-nearer s input p r e m =
 
 pub one-line-for-row : OneLineForRow
 unfolding rowsPrinted ended
-one-line-for-row [] = refl
-one-line-for-row (r ∷ rs) =
-    let t : List ℕ = spoken (answer text (rowOutcome r) .verdict) in
-    rw (sym (spoken-verdict (rowOutcome r)), one-line-for-row rs) (append-assoc t (10 ∷ []) _)
+one-line-for-row h [] = refl
+one-line-for-row h (r ∷ rs) =
+    let t : List ℕ = spoken (answer text (rowOutcome h r) .verdict) in
+    rw (sym (spoken-verdict (rowOutcome h r)), one-line-for-row h rs) (append-assoc t (10 ∷ []) _)

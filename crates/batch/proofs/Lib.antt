@@ -3,5 +3,7 @@
 pub mod Inputs
 -- the steps end, and print all of the output
 pub mod LawsHold
+-- rows without LOSS and with LOSS 0
+pub mod WithoutLoss
 -- P1 to P10 and small inputs, computed
 pub mod ExamplesHold

@@ -59,12 +59,35 @@ ours e = output Plans (ended (ascii "BO SO H NR NE OWN SINK BURST RATE HEAD DATA
 unfoldable pub ExamplesHold : Type 0
 ExamplesHold = map ours examples ≡ map (λ e. ended (map ascii (e .stated))) examples
 
+-- rows with LOSS (document 02, E5), under 13 names: X is 138 of 26 octets acknowledged and 340 of 127
+unfoldable pub lossy : List Example
+lossy =
+    planned "P1 acknowledged, LOSS 2: exchanges of 138 + 2 × 158 = 454, two of them in a slot of 960" "8 4 1 2 1 0 0 1 1 19 7 1 2"
+    ("E 0 1 245760 1 2 245760 2 368640" ∷ "U 1 1 491520 1 2 245760 3 491520" ∷ "S 0 3 1966080 0 0 0 8 860160" ∷ [])
+    ∷ planned "the longest exchange, 340 + 7 × 360 = 2860, one in three slots" "8 4 1 2 1 0 0 1 1 5 122 1 7"
+    ("E 0 1 245760 3 1 248620 3 494380" ∷ "U 1 1 494380 3 1 248620 4 743000" ∷ "S 0 3 1980380 0 0 0 9 1237380" ∷ [])
+    ∷ planned "LOSS 0: P1" "8 4 1 2 1 0 0 1 1 19 7 0 0"
+    ("E 0 1 245760 1 9 245032 2 272339" ∷ "U 1 1 490792 1 9 245032 3 299565" ∷ "S 0 3 1962440 0 0 0 8 571904" ∷ [])
+    ∷ refused "454 symbols need 8 slots of 7" "0 0 0 0 1 0 0 1 1 19 7 1 2" "R 7 0"
+    ∷ planned "296 symbols need 5" "0 0 0 0 1 0 0 1 1 19 7 1 1"
+    ("E 0 1 960 5 1 1256 3 2216" ∷ "S 0 1 2216 0 0 0 3 2216" ∷ [])
+    ∷ []
+
+-- what is printed for the 13 names and that row
+unfoldable pub oursLossy : Example → List ℕ
+oursLossy e = output Plans (ended (ascii "BO SO H NR NE OWN SINK BURST RATE HEAD DATA ACK LOSS" ∷ ascii (e .row) ∷ []))
+
+-- the theorem; proofs/ExamplesHold proves it by computing both sides
+unfoldable pub LossyHold : Type 0
+LossyHold = map oursLossy lossy ≡ map (λ e. ended (map ascii (e .stated))) lossy
+
 -- the whole input: the name line alone, a text without one, rows behind a refused one, a last row without its LF
 pub record InputsHold : Type 0 where
   pub namesAloneExplained : output Reasons (ascii "BO SO H NR NE OWN SINK BURST RATE HEAD DATA ACK\n") ≡ []
   pub emptyExplained : output Reasons [] ≡ ascii "The line of names differs or is missing.\n"
   pub namesAlone : output Plans (ascii "BO SO H NR NE OWN SINK BURST RATE HEAD DATA ACK\n") ≡ []
   pub namesWithoutEnd : output Plans (ascii "BO SO H NR NE OWN SINK BURST RATE HEAD DATA ACK") ≡ []
+  pub lossyNamesAlone : output Plans (ascii "BO SO H NR NE OWN SINK BURST RATE HEAD DATA ACK LOSS\n") ≡ []
   pub empty : output Plans [] ≡ ascii "R 1 0\n"
   pub noNames : output Plans (ascii "8 4 1 2 1 0 0 1 1 19 7 0\n8 4 1 2 1 0 0 1 1 19 7 0\n") ≡ ascii "R 1 0\n"
   pub several : output Plans (ascii "BO SO H NR NE OWN SINK BURST RATE HEAD DATA ACK\n08 4 1 2 1 0 0 1 1 19 7 0\n\n0 0 0 0 3 0 0 1 1 19 7 0\n0 0 0 0 5 0 0 1 1 19 7 0")
@@ -92,9 +115,28 @@ reasons =
     ∷ refused "planned" "8 4 1 2 1 0 0 1 1 19 7 0" "The row is planned."
     ∷ []
 
+-- rows under 13 names, and the line of each (document 02, E5)
+unfoldable pub lossyReasons : List Example
+lossyReasons =
+    refused "2, a value missing" "8 4 1 2 1 0 0 1 1 19 7 0" "The value of LOSS is unreadable or missing."
+    ∷ refused "2" "8 4 1 2 1 0 0 1 1 19 7 1 07" "The value of LOSS is unreadable or missing."
+    ∷ refused "2, text after the last" "8 4 1 2 1 0 0 1 1 19 7 1 7 7" "There is text after the last value, where column 14 would be."
+    ∷ refused "3" "8 4 1 2 1 0 0 1 1 19 7 1 8" "The value of LOSS is outside its range: it is 8."
+    ∷ refused "4, place 11" "8 4 1 2 1 0 0 1 1 126 2 0 7" "Values are at odds at DATA, which with HEAD may not be above 127: HEAD is 126 and DATA is 2."
+    ∷ refused "4, place 13" "8 4 1 2 1 0 0 1 1 19 7 0 7" "Values are at odds at LOSS, which is 0 where ACK is 0: LOSS is 7 and ACK is 0."
+    ∷ refused "7" "0 0 0 0 1 0 0 1 1 19 7 1 2" "The slots used at depth 0 are more than can be reserved: 8 used and 7 reservable."
+    ∷ refused "planned" "8 4 1 2 1 0 0 1 1 19 7 1 7" "The row is planned."
+    ∷ []
+
 -- the theorem; proofs/ExamplesHold proves it by computing both sides. One input has all these rows.
 unfoldable pub explained : List ℕ
 explained = output Reasons (ended (ascii "BO SO H NR NE OWN SINK BURST RATE HEAD DATA ACK" ∷ map (λ e. ascii (e .row)) reasons))
 
 unfoldable pub ReasonsHold : Type 0
 ReasonsHold = explained ≡ ended (map (λ e. ascii (getD (e .stated) 0 "")) reasons)
+
+unfoldable pub lossyExplained : List ℕ
+lossyExplained = output Reasons (ended (ascii "BO SO H NR NE OWN SINK BURST RATE HEAD DATA ACK LOSS" ∷ map (λ e. ascii (e .row)) lossyReasons))
+
+unfoldable pub LossyReasonsHold : Type 0
+LossyReasonsHold = lossyExplained ≡ ended (map (λ e. ascii (getD (e .stated) 0 "")) lossyReasons)

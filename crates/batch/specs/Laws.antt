@@ -1,13 +1,20 @@
--- What holds of an input's output and of its steps, for a program that takes them. Assumes nothing: these are statements; proofs/LawsHold proves them.
+-- What holds of an input's output and of its steps, for a program that takes them. Assumes nothing: these are statements; proofs/LawsHold and WithoutLoss prove them.
 use Prim.Native.Nat.{ℕ, suc, _-_, _≤_, _<_}
 use mathlib.Core.Path.{_≡_}
-use mathlib.Core.Bool.{true, cond}
-use mathlib.Core.List.{List, [], map}
-use lib.ListN.{length, getD, drop}
+use mathlib.Core.Bool.{Bool, true, cond, _&&_}
+use mathlib.Core.List.{List, [], _∷_, map}
+use lib.Dec.{eqb}
+use lib.ListN.{length, drop}
 use Rattle.decimal.specs.Ascii.{ascii}
-use Rattle.lines.specs.Text.{lines, ended}
+use Rattle.lines.specs.Text.{fields, lines, ended}
+use Rattle.lines.specs.Laws.{allLack}
 use Rattle.refusals.specs.Conditions.{firstBroken}
+use Rattle.settings.specs.Columns.{twelve, table}
+use Rattle.row.specs.declared.Heading.{Heading}
+use Rattle.row.specs.declared.Heading.the-variants.{Twelve, Thirteen}
+use Rattle.row.specs.Names.{nameLine}
 use Rattle.row.specs.Rows.{named}
+use Rattle.row.specs.Laws.{withZero}
 use Rattle.planner.specs.Plans.{answer}
 use Rattle.answers.specs.Outcomes.{rowOutcome}
 use Rattle.report.specs.Text.{text}
@@ -15,7 +22,7 @@ use Rattle.reasons.specs.Reasons.{spoken}
 use Rattle.batch.specs.declared.Style.{Style}
 use Rattle.batch.specs.declared.Style.the-variants.{Plans, Reasons}
 use Rattle.batch.specs.declared.Progress.{Progress}
-use Rattle.batch.specs.Output.{refusalPrinted, rowsPrinted, output}
+use Rattle.batch.specs.Output.{refusalPrinted, rowsPrinted, headingIn, output}
 use Rattle.batch.specs.Steps.{start, step, printedFrom}
 
 -- over 65,536 bytes one line is all, whatever they are
@@ -28,11 +35,25 @@ LongInputs =
 abbrev pub OtherInputs : Type 0
 OtherInputs =
     (s : Style) (input : List ℕ) → length input ≤ 65536
-    → output s input ≡ firstBroken (refusalPrinted s) (rowsPrinted s (drop 1 (lines input))) (named (getD (lines input) 0 []))
+    → output s input ≡ firstBroken (refusalPrinted s) (rowsPrinted s (headingIn input) (drop 1 (lines input))) (named (headingIn input))
 
 -- reasons are one line for each row, in the rows' order: that it is planned, or why it is refused
 abbrev pub OneLineForRow : Type 0
-OneLineForRow = (rows : List (List ℕ)) → rowsPrinted Reasons rows ≡ ended (map (λ (r : List ℕ). spoken (answer text (rowOutcome r) .verdict)) rows)
+OneLineForRow = (heading : Heading) (rows : List (List ℕ))
+    → rowsPrinted Reasons heading rows ≡ ended (map (λ (r : List ℕ). spoken (answer text (rowOutcome heading r) .verdict)) rows)
+
+-- rows of twelve values each
+unfoldable pub allTwelve : List (List ℕ) → Bool
+allTwelve [] = true
+allTwelve (r ∷ rs) = eqb (length (fields r)) 12 && allTwelve rs
+
+-- E5: "A name line of 12 names still stands for LOSS 0." Rows of twelve values under 12 names, and the same rows with LOSS 0 under 13 names, print
+-- the same; so do the inputs that have them, as long as neither is over 65,536 bytes
+pub record SameWithoutLoss : Type 0 where
+  pub rows : (s : Style) (rows : List (List ℕ)) → allTwelve rows ≡ true → rowsPrinted s Thirteen (map withZero rows) ≡ rowsPrinted s Twelve rows
+  pub inputs : (s : Style) (rows : List (List ℕ)) → allTwelve rows ≡ true → allLack 10 rows ≡ true
+      → length (ended (nameLine table ∷ map withZero rows)) ≤ 65536
+      → output s (ended (nameLine table ∷ map withZero rows)) ≡ output s (ended (nameLine twelve ∷ rows))
 
 -- what is left: the bytes behind a position, and one step before the first row
 unfoldable pub toGo : List ℕ → Progress → ℕ

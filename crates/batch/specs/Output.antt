@@ -8,6 +8,8 @@ use Rattle.refusals.specs.declared.Refusal.{Refusal}
 use Rattle.refusals.specs.declared.Refusal.the-variants.{InputTooLong}
 use Rattle.refusals.specs.declared.Verdict.the-variants.{Kept, Broken}
 use Rattle.refusals.specs.Conditions.{Condition, condition, firstBroken}
+use Rattle.row.specs.declared.Heading.{Heading}
+use Rattle.row.specs.Names.{headingOf}
 use Rattle.row.specs.Rows.{named}
 use Rattle.refusals.specs.Outcome.{Planned, Refused}
 use Rattle.balanced.specs.Outcome.{RowOutcome}
@@ -29,19 +31,23 @@ printed Reasons (Refused r) = ended (spoken (Broken r) ∷ [])
 abbrev pub refusalPrinted : Style → Refusal → List ℕ
 refusalPrinted s r = printed s (Refused r)
 
--- rows, one behind another: "after another refusal the next row is taken"
-unfoldable pub rowsPrinted : Style → List (List ℕ) → List ℕ
-rowsPrinted s [] = []
-rowsPrinted s (r ∷ rs) = printed s (rowOutcome r) ++ rowsPrinted s rs
+-- rows under a line of names, one behind another: "after another refusal the next row is taken"
+unfoldable pub rowsPrinted : Style → Heading → List (List ℕ) → List ℕ
+rowsPrinted s heading [] = []
+rowsPrinted s heading (r ∷ rs) = printed s (rowOutcome heading r) ++ rowsPrinted s heading rs
+
+-- which line of names the first line is. An input without a line has none.
+unfoldable pub headingIn : List ℕ → Heading
+headingIn input = headingOf (getD (lines input) 0 [])
 
 -- number 9: "program's input over 65,536 bytes"
 unfoldable pub tooLong : List ℕ → List (Condition Refusal)
 tooLong input = condition (ltb 65536 (length input)) InputTooLong ∷ []
 
--- numbers 9 and 1, in this order: "Number 9 [..] comes before all others". An input without a line has no name line.
+-- numbers 9 and 1, in this order: "Number 9 [..] comes before all others"
 unfoldable pub inputConditions : List ℕ → List (Condition Refusal)
-inputConditions input = tooLong input ++ named (getD (lines input) 0 [])
+inputConditions input = tooLong input ++ named (headingIn input)
 
 -- all that is printed: "After 1 or 9 one `R` line is all", else the rows behind the name line
 unfoldable pub output : Style → List ℕ → List ℕ
-output s input = firstBroken (refusalPrinted s) (rowsPrinted s (drop 1 (lines input))) (inputConditions input)
+output s input = firstBroken (refusalPrinted s) (rowsPrinted s (headingIn input) (drop 1 (lines input))) (inputConditions input)

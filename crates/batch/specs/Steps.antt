@@ -8,18 +8,20 @@ use Rattle.lines.specs.declared.Line.the-variants.{Found, Nothing}
 use Rattle.lines.specs.Text.{lineAt, partOf}
 use Rattle.refusals.specs.Conditions.{firstBroken}
 use Rattle.answers.specs.Outcomes.{rowOutcome}
+use Rattle.row.specs.declared.Heading.{Heading}
+use Rattle.row.specs.declared.Heading.the-variants.{Other}
 use Rattle.batch.specs.declared.Style.{Style}
 use Rattle.batch.specs.declared.Progress.{Progress}
 use Rattle.batch.specs.declared.Piece.{Piece}
-use Rattle.batch.specs.Output.{printed, refusalPrinted, inputConditions}
+use Rattle.batch.specs.Output.{printed, refusalPrinted, headingIn, inputConditions}
 
 -- nothing printed yet
 unfoldable pub start : Progress
-start = record { at = 0; begun = false }
+start = record { at = 0; heading = Other; begun = false }
 
--- the next row starts there
-abbrev pub rowsFrom : ℕ → Progress
-rowsFrom n = record { at = n; begun = true }
+-- the next row, under that line of names, starts there
+abbrev pub rowsFrom : Heading → ℕ → Progress
+rowsFrom heading n = record { at = n; heading = heading; begun = true }
 
 -- a step: what is printed, and how it goes on; `more` is false where all was printed
 pub record Step : Type 0 where
@@ -36,21 +38,21 @@ behind Nothing = 0
 unfoldable pub opening : Style → List ℕ → Step
 opening s input = record {
   bytes = firstBroken (refusalPrinted s) [] (inputConditions input);
-  next = rowsFrom (firstBroken (λ r. length input) (behind (lineAt input 0)) (inputConditions input));
+  next = rowsFrom (headingIn input) (firstBroken (λ r. length input) (behind (lineAt input 0)) (inputConditions input));
   more = true;
 }
 
 -- a further step: the row at a position, where there is one
-unfoldable pub rowAt : Style → List ℕ → ℕ → Line → Step
-rowAt s input at (Found start end next) = record {
-  bytes = printed s (rowOutcome (partOf input start end));
-  next = rowsFrom (next .at);
+unfoldable pub rowAt : Style → Heading → List ℕ → ℕ → Line → Step
+rowAt s heading input at (Found start end next) = record {
+  bytes = printed s (rowOutcome heading (partOf input start end));
+  next = rowsFrom heading (next .at);
   more = true;
 }
-rowAt s input at Nothing = record { bytes = []; next = rowsFrom at; more = false }
+rowAt s heading input at Nothing = record { bytes = []; next = rowsFrom heading at; more = false }
 
 unfoldable pub step : Style → List ℕ → Progress → Step
-step s input p = cond (p .begun) (rowAt s input (p .at) (lineAt input (p .at))) (opening s input)
+step s input p = cond (p .begun) (rowAt s (p .heading) input (p .at) (lineAt input (p .at))) (opening s input)
 
 -- the answer to a step
 unfoldable pub piece : Step → Piece

@@ -6,14 +6,15 @@ ghost use mathlib.Core.Path.{_≡_};
 ghost use Prim.Native.Nat.{_≤_};
 ghost use lib.ListN.{length};
 ghost use lib.Seq.{sets};
-ghost use mathlib.Core.List.{[], _∷_};
+ghost use mathlib.Core.List.{[], _∷_, _++_};
 ghost use Rattle.lines.specs.Text.{lineAt, ended};
 ghost use Rattle.refusals.specs.declared.Verdict.the-variants.{Kept, Broken};
 ghost use Rattle.refusals.specs.Conditions.{firstBroken};
 ghost use Rattle.answers.specs.Outcomes.{rowOutcome};
 ghost use Rattle.reasons.specs.Reasons.{spoken};
 ghost use Rattle.batch.specs.declared.Style.the-variants.{Plans, Reasons};
-ghost use Rattle.batch.specs.Output.{inputConditions, printed, refusalPrinted};
+ghost use Rattle.row.specs.Rows.{named};
+ghost use Rattle.batch.specs.Output.{tooLong, headingIn, printed, refusalPrinted};
 ghost use Rattle.batch.specs.Steps.{start, rowsFrom, behind, opening, rowAt, step, piece};
 use answers::plan_row;
 use buffer::put_byte;
@@ -26,7 +27,9 @@ use refusals::Refusal;
 use refusals::Verdict;
 use report::LONGEST;
 use report::put_refusal;
-use row::names_match;
+use row::Heading;
+use row::heading_of;
+use row::is_other;
 
 // No input may be longer.
 pub const LIMIT: usize = 65536;
@@ -37,9 +40,10 @@ pub enum Style {
     Reasons,
 }
 
-// How far an input was printed: nothing yet, or all before the row that starts at `at`.
+// How far an input was printed: nothing yet, or all before the row that starts at `at`, under that line of names.
 pub struct Progress {
     pub at: usize,
+    pub heading: Heading,
     pub begun: bool,
 }
 
@@ -56,6 +60,7 @@ pub fn begin() -> Progress
 {
     Progress {
         at: 0,
+        heading: Heading::Other,
         begun: false,
     }
 }
@@ -67,7 +72,8 @@ pub fn next_piece(style: Style, input: &[u8], from: Progress, out: &mut [u8]) ->
     ensures { λ _. ⌜ now (out .exit) ≡ sets (now (out .entry)) 0 (step style (now (input .entry)) from .bytes) ⌝ }
 {
     if from.begun {
-        return next_row(style, input, from.at, out);
+        let heading = from.heading;
+        return next_row(style, heading, input, from.at, out);
     }
     open(style, input, out)
 }
@@ -78,29 +84,27 @@ fn open(style: Style, input: &[u8], out: &mut [u8]) -> Piece
     ensures { λ r. ⌜ r .length ≤ 4476 ⌝ }
     ensures { λ _. ⌜ now (out .exit) ≡ sets (now (out .entry)) 0 (opening style (now (input .entry)) .bytes) ⌝ }
 {
-    let verdict = check_input(input);
+    let heading = heading_in(input);
+    let verdict = check_input(heading, input);
     if let Verdict::Broken(refusal) = verdict {
         let length = put_refused(style, refusal, out);
         return Piece {
             length,
-            next: rows_from(input.len()),
+            next: rows_from(heading, input.len()),
             more: true,
         };
     }
     Piece {
         length: 0,
-        next: rows_from(line_end(next_line(input, Cursor { at: 0 }))),
+        next: rows_from(heading, line_end(next_line(input, Cursor { at: 0 }))),
         more: true,
     }
 }
 
-// Numbers 9 and 1, in this order.
-fn check_input(input: &[u8]) -> Verdict
-    ensures { λ r. ⌜ r ≡ firstBroken Broken Kept (inputConditions (now (input .entry))) ⌝ }
+// Which line of names the first line is.
+fn heading_in(input: &[u8]) -> Heading
+    ensures { λ r. ⌜ r ≡ headingIn (now (input .entry)) ⌝ }
 {
-    if LIMIT < input.len() {
-        return Verdict::Broken(Refusal::InputTooLong);
-    }
     let line = next_line(input, Cursor { at: 0 });
     let Line::Found {
         start,
@@ -108,32 +112,42 @@ fn check_input(input: &[u8]) -> Verdict
         next: _,
     } = line
     else {
-        return Verdict::Broken(Refusal::Names);
+        return Heading::Other;
     };
-    if names_match(part(input, start, end)) {
-        return Verdict::Kept;
+    heading_of(part(input, start, end))
+}
+
+// Numbers 9 and 1, in this order.
+fn check_input(heading: Heading, input: &[u8]) -> Verdict
+    ensures { λ r. ⌜ r ≡ firstBroken Broken Kept (tooLong (now (input .entry)) ++ named heading) ⌝ }
+{
+    if LIMIT < input.len() {
+        return Verdict::Broken(Refusal::InputTooLong);
     }
-    Verdict::Broken(Refusal::Names)
+    if is_other(heading) {
+        return Verdict::Broken(Refusal::Names);
+    }
+    Verdict::Kept
 }
 
 // The plan or the refusal of the row at a position, where there is one.
-fn next_row(style: Style, input: &[u8], at: usize, out: &mut [u8]) -> Piece
-    ensures { λ r. ⌜ r ≡ piece (rowAt style (now (input .entry)) at (lineAt (now (input .entry)) at)) ⌝ }
+fn next_row(style: Style, heading: Heading, input: &[u8], at: usize, out: &mut [u8]) -> Piece
+    ensures { λ r. ⌜ r ≡ piece (rowAt style heading (now (input .entry)) at (lineAt (now (input .entry)) at)) ⌝ }
     ensures { λ r. ⌜ r .length ≤ 4476 ⌝ }
-    ensures { λ _. ⌜ now (out .exit) ≡ sets (now (out .entry)) 0 (rowAt style (now (input .entry)) at (lineAt (now (input .entry)) at) .bytes) ⌝ }
+    ensures { λ _. ⌜ now (out .exit) ≡ sets (now (out .entry)) 0 (rowAt style heading (now (input .entry)) at (lineAt (now (input .entry)) at) .bytes) ⌝ }
 {
     let line = next_line(input, Cursor { at });
     let Line::Found { start, end, next } = line else {
         return Piece {
             length: 0,
-            next: rows_from(at),
+            next: rows_from(heading, at),
             more: false,
         };
     };
-    let length = put_row(style, part(input, start, end), out);
+    let length = put_row(style, heading, part(input, start, end), out);
     Piece {
         length,
-        next: rows_from(next.at),
+        next: rows_from(heading, next.at),
         more: true,
     }
 }
@@ -162,36 +176,36 @@ fn put_spoken(verdict: Verdict, out: &mut [u8]) -> usize
 }
 
 // What is printed for a row.
-fn put_row(style: Style, row: &[u8], out: &mut [u8]) -> usize
-    ensures { λ r. ⌜ r ≡ length (printed style (rowOutcome (now (row .entry)))) ⌝ }
+fn put_row(style: Style, heading: Heading, row: &[u8], out: &mut [u8]) -> usize
+    ensures { λ r. ⌜ r ≡ length (printed style (rowOutcome heading (now (row .entry)))) ⌝ }
     ensures { λ r. ⌜ r ≤ 4476 ⌝ }
-    ensures { λ _. ⌜ now (out .exit) ≡ sets (now (out .entry)) 0 (printed style (rowOutcome (now (row .entry)))) ⌝ }
+    ensures { λ _. ⌜ now (out .exit) ≡ sets (now (out .entry)) 0 (printed style (rowOutcome heading (now (row .entry)))) ⌝ }
 {
     match style {
-        Style::Plans => put_plan(row, out),
-        Style::Reasons => put_reason(row, out),
+        Style::Plans => put_plan(heading, row, out),
+        Style::Reasons => put_reason(heading, row, out),
     }
 }
 
 // The line of a row. Its plan is made apart and left there.
-fn put_reason(row: &[u8], out: &mut [u8]) -> usize
-    ensures { λ r. ⌜ r ≡ length (printed Reasons (rowOutcome (now (row .entry)))) ⌝ }
+fn put_reason(heading: Heading, row: &[u8], out: &mut [u8]) -> usize
+    ensures { λ r. ⌜ r ≡ length (printed Reasons (rowOutcome heading (now (row .entry)))) ⌝ }
     ensures { λ r. ⌜ r ≤ 4476 ⌝ }
-    ensures { λ _. ⌜ now (out .exit) ≡ sets (now (out .entry)) 0 (printed Reasons (rowOutcome (now (row .entry)))) ⌝ }
+    ensures { λ _. ⌜ now (out .exit) ≡ sets (now (out .entry)) 0 (printed Reasons (rowOutcome heading (now (row .entry)))) ⌝ }
 {
     let mut space = [0u8; LONGEST];
-    let plan = plan_row(row, &mut space);
+    let plan = plan_row(heading, row, &mut space);
     let verdict = plan.verdict;
     put_spoken(verdict, out)
 }
 
 // The plan of a row, or its R line.
-fn put_plan(row: &[u8], out: &mut [u8]) -> usize
-    ensures { λ r. ⌜ r ≡ length (printed Plans (rowOutcome (now (row .entry)))) ⌝ }
+fn put_plan(heading: Heading, row: &[u8], out: &mut [u8]) -> usize
+    ensures { λ r. ⌜ r ≡ length (printed Plans (rowOutcome heading (now (row .entry)))) ⌝ }
     ensures { λ r. ⌜ r ≤ 4476 ⌝ }
-    ensures { λ _. ⌜ now (out .exit) ≡ sets (now (out .entry)) 0 (printed Plans (rowOutcome (now (row .entry)))) ⌝ }
+    ensures { λ _. ⌜ now (out .exit) ≡ sets (now (out .entry)) 0 (printed Plans (rowOutcome heading (now (row .entry)))) ⌝ }
 {
-    let plan = plan_row(row, out);
+    let plan = plan_row(heading, row, out);
     let verdict = plan.verdict;
     if let Verdict::Broken(refusal) = verdict {
         return put_refusal(out, refusal);
@@ -214,8 +228,12 @@ fn line_end(line: Line) -> usize
 }
 
 // The next row starts there.
-fn rows_from(at: usize) -> Progress
-    ensures { λ r. ⌜ r ≡ rowsFrom at ⌝ }
+fn rows_from(heading: Heading, at: usize) -> Progress
+    ensures { λ r. ⌜ r ≡ rowsFrom heading at ⌝ }
 {
-    Progress { at, begun: true }
+    Progress {
+        at,
+        heading,
+        begun: true,
+    }
 }

@@ -1,13 +1,14 @@
 -- Texts put together from values or lines are parted into them again. Assumes nothing.
 use mathlib.Core.Path.{_≡_, refl, ap, _∙_}
-use mathlib.Core.Bool.{true, false, not, and-eq-true-iff}
+use mathlib.Core.Bool.{Bool, true, false, not, and-eq-true-iff}
 use mathlib.Core.List.{List, [], _∷_, _++_}
-use Prim.Native.Nat.{ℕ, _<_}
+use Prim.Native.Nat.{ℕ, _≤_, _<_}
 use native.Mathlib.Omega.{arith}
 use lib.Dec.{eqb}
+use lib.ListN.{length}
 use borrow.Author.Tests.{eq-eqb, ne-eqb, not-true}
 use Rattle.lines.specs.Text.{before, pieces, fields, joined, lines, ended}
-use Rattle.lines.specs.Laws.{lacks, allLack, ValuesOfLine, LinesOfText}
+use Rattle.lines.specs.Laws.{lacks, allLack, ValuesOfLine, OneValueMore, LinesOfText}
 
 -- the first byte is no cut, and there is none among the others
 pub lacks-head : (c b : ℕ) (bs : List ℕ) → lacks c (b ∷ bs) ≡ true → (eqb b c ≡ false) × (lacks c bs ≡ true)
@@ -57,6 +58,32 @@ values-of-line f [] e = cut-nowhere 32 f (all-lack-head _ f [] e .0)
 values-of-line f (g ∷ gs) e =
     let h = all-lack-head _ f (g ∷ gs) e in
     cut-behind 32 ([] ∷ []) f (joined (g ∷ gs)) (h .0) ∙ ap (λ (ts : List (List ℕ)). f ∷ ts) (values-of-line g gs (h .1))
+
+-- a byte in front of pieces, at least one of which there is, is in front of the first
+before-more : (b : Bool) (c : ℕ) (ps qs : List (List ℕ)) → 1 ≤ length ps → before b c (ps ++ qs) ≡ before b c ps ++ qs
+unfolding before
+before-more true c ps qs h = refl
+before-more false c [] qs h = absurd (omega arith)
+before-more false c (p ∷ ps) qs h = refl
+
+before-some : (b : Bool) (c : ℕ) (ps : List (List ℕ)) → 1 ≤ length (before b c ps)
+unfolding before
+before-some true c ps = omega arith
+before-some false c [] = omega arith
+before-some false c (p ∷ ps) = omega arith
+
+-- a line has a value
+fields-some : (line : List ℕ) → 1 ≤ length (fields line)
+unfolding fields pieces
+fields-some [] = omega arith
+fields-some (b ∷ bs) = before-some (eqb b 32) b (fields bs)
+
+pub one-value-more : OneValueMore
+unfolding fields pieces before
+one-value-more [] f e = rw (cut-nowhere 32 f e)
+one-value-more (b ∷ bs) f e =
+    let t : fields (bs ++ 32 ∷ f) ≡ fields bs ++ f ∷ [] = one-value-more bs f e in
+    rw t (before-more (eqb b 32) b (fields bs) (f ∷ []) (fields-some bs))
 
 -- the lines of a text that is made of them: each has an LF behind it
 pub lines-of-text : LinesOfText

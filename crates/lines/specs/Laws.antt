@@ -1,7 +1,7 @@
 -- What holds of lines, for the layers above. Assumes nothing: these are statements; proofs/Joining, Parting and LawsHold prove them.
 use mathlib.Core.Path.{_≡_}
 use mathlib.Core.Bool.{Bool, true, not, _&&_}
-use mathlib.Core.List.{List, [], _∷_}
+use mathlib.Core.List.{List, [], _∷_, _++_}
 use Prim.Native.Nat.{ℕ, _≤_, _<_}
 use lib.Dec.{eqb}
 use lib.ListN.{length, drop}
@@ -26,6 +26,10 @@ allLack b (t ∷ ts) = lacks b t && allLack b ts
 -- values without a space, at least one, are the values of the line that is made of them
 abbrev pub ValuesOfLine : Type 0
 ValuesOfLine = (f : List ℕ) (fs : List (List ℕ)) → allLack 32 (f ∷ fs) ≡ true → fields (joined (f ∷ fs)) ≡ f ∷ fs
+
+-- a space and a value without one, behind a line, are one value more
+abbrev pub OneValueMore : Type 0
+OneValueMore = (line f : List ℕ) → lacks 32 f ≡ true → fields (line ++ 32 ∷ f) ≡ fields line ++ f ∷ []
 
 -- lines without an LF are the lines of the text that is made of them
 abbrev pub LinesOfText : Type 0

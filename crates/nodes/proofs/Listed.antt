@@ -9,7 +9,7 @@ use lib.Dec.{eqb, leb, ltb}
 use lib.ListN.{length, getD, length-map}
 use borrow.Author.Tests.{eqb-true, leb-true, ltb-true, ne-eqb, not-false}
 use Rattle.refusals.specs.Conditions.{Unbroken}
-use Rattle.settings.specs.Columns.{table, columnAt}
+use Rattle.settings.specs.Columns.{twelve, table, columnAt}
 use Rattle.tree.specs.Tree.{Planted, Ranged}
 use Rattle.nodes.specs.declared.Reading.{Reading}
 use Rattle.nodes.specs.declared.Reading.the-variants.{Node, Unreadable}
@@ -65,7 +65,7 @@ pub record Sensor (b r : ℕ) : Type 0 where
   pub both : r ≡ 0 → b ≡ 0
 
 pub sensor-is : (b r : ℕ) → sensorRight b r ≡ true → Sensor b r
-unfolding sensorRight columnAt table
+unfolding sensorRight columnAt twelve table
 sensor-is b r e = by (either (eqb b 0 && eqb r 0) ((leb 1 b && leb b 255) && (leb 1 r && leb r 4095)) e)
   where
     by : (eqb b 0 && eqb r 0 ≡ true) ⊎ ((leb 1 b && leb b 255) && (leb 1 r && leb r 4095) ≡ true) → Sensor b r

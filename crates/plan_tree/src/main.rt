@@ -1,5 +1,5 @@
-// The program: `plan_tree BO SO HEAD DATA ACK SINK`, a node list from standard input, its plan or a refusal to standard output (document 02,
-// E3). What is printed is decided in `printout`; here it is read and written alone.
+// The program: `plan_tree BO SO HEAD DATA ACK SINK [LOSS]`, a node list from standard input, its plan or a refusal to standard output
+// (document 02, E3 and E5). What is printed is decided in `printout`; here it is read and written alone.
 use decimal::Number;
 use decimal::read_number;
 use libc::STDIN_FILENO;
@@ -31,8 +31,18 @@ fn arguments() -> Arguments {
         payload: argument(4),
         ack: argument(5),
         sink: argument(6),
-        more: 7 < os::arg_count(),
+        loss: argument(7),
+        count: argument_count(),
     }
+}
+
+// How many arguments stand behind the program's name.
+fn argument_count() -> usize {
+    let n = os::arg_count();
+    if n < 1 {
+        return 0;
+    }
+    n - 1
 }
 
 // The number that an argument spells. One that is missing, or longer than any number, is as an empty one.

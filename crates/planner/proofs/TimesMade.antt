@@ -7,8 +7,8 @@ use borrow.Author.Tests.{lt-ltb, le-ltb}
 use Rattle.measure.specs.declared.Symbols.{Symbols}
 use Rattle.measure.specs.declared.Slots.{Slots}
 use Rattle.superframe.specs.Orders.{beaconInterval, slot, reservable}
-use Rattle.superframe.specs.Exchange.{exchangeFor}
-use Rattle.superframe.proofs.ExchangeLaws.{exchange-for-octets}
+use Rattle.superframe.specs.Loss.{lossyExchangeFor}
+use Rattle.superframe.proofs.LossLaws.{lossy-for-octets}
 use Rattle.links.specs.declared.Timing.{Timing}
 use Rattle.settings.specs.declared.Settings.{Settings}
 use Rattle.settings.specs.Laws.{Checked}
@@ -33,7 +33,7 @@ reservable-lowest s h i k l e =
     e ∙ rw (order-is (s .so) (h .so), le-ltb i (s .h) k, alone)
 
 -- times from the answers for each
-pub timing-made : (s : Settings) (i t x : Symbols) (o : ℕ) → o ≡ upTo64 (s .head + s .payload) → i ≡ beaconInterval (min (s .bo) 14) → t ≡ slot (min (s .so) 14) → x ≡ exchangeFor o (eqb (s .ack) 1)
+pub timing-made : (s : Settings) (i t x : Symbols) (o : ℕ) → o ≡ upTo64 (s .head + s .payload) → i ≡ beaconInterval (min (s .bo) 14) → t ≡ slot (min (s .so) 14) → x ≡ lossyExchangeFor o (eqb (s .ack) 1) (s .loss)
     → _≡_ {A = Timing} (record { interval = i; slot = t; exchange = x }) (timingAnswered s)
 unfolding timingAnswered
 timing-made s i t x o eo ei et ex = rw (ei, et, ex, eo)
@@ -43,4 +43,4 @@ pub timing-fits : (s : Settings) → Checked s → timingAnswered s ≡ timingOf
 unfolding timingAnswered timingOf
 timing-fits s h =
     let o : upTo64 (s .head + s .payload) ≡ s .head + s .payload = up-to-fits (omega (arith, h .frame)) in
-    rw (o, order-is (s .bo) (h .bo), order-is (s .so) (h .so), exchange-for-octets (s .head + s .payload) (eqb (s .ack) 1) (omega (arith, h .head .0, h .payload .0)) (h .frame))
+    rw (o, order-is (s .bo) (h .bo), order-is (s .so) (h .so), lossy-for-octets (s .head + s .payload) (eqb (s .ack) 1) (s .loss) (omega (arith, h .head .0, h .payload .0)) (h .frame) (h .loss))

@@ -4,14 +4,14 @@ use Prim.Native.Nat.{_+_, min}
 use lib.Dec.{eqb}
 use Rattle.measure.specs.Measures.{upTo64}
 use Rattle.superframe.specs.Orders.{beaconInterval, slot}
-use Rattle.superframe.specs.Exchange.{exchangeFor}
+use Rattle.superframe.specs.Loss.{lossyExchangeFor}
 use Rattle.links.specs.declared.Timing.{Timing}
 use Rattle.settings.specs.declared.Settings.{Settings}
 
--- an order above 14 counts as 14, and octets outside their range take the longest exchange
+-- an order above 14 counts as 14, a LOSS above 7 as 7, and octets outside their range as the longest frame
 unfoldable pub timingAnswered : Settings → Timing
 timingAnswered s = record {
   interval = beaconInterval (min (s .bo) 14);
   slot = slot (min (s .so) 14);
-  exchange = exchangeFor (upTo64 (s .head + s .payload)) (eqb (s .ack) 1);
+  exchange = lossyExchangeFor (upTo64 (s .head + s .payload)) (eqb (s .ack) 1) (s .loss);
 }

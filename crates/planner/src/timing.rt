@@ -8,7 +8,7 @@ use measure::Slots;
 use settings::Settings;
 use superframe::orders::reservable_slots;
 
-// BI, S and X of any settings.
+// BI, S and the exchange with LOSS of any settings.
 pub fn timing_of(s: Settings) -> Timing
     ensures { λ r. ⌜ r ≡ timingAnswered s ⌝ }
 {
@@ -16,7 +16,7 @@ pub fn timing_of(s: Settings) -> Timing
     Timing {
         interval: superframe::orders::beacon_interval(s.bo),
         slot: superframe::orders::slot_length(s.so),
-        exchange: superframe::exchange::exchange_time(octets, s.ack == 1),
+        exchange: superframe::loss::lossy_exchange_time(octets, s.ack == 1, s.loss),
     }
 }
 

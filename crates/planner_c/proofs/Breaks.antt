@@ -19,7 +19,7 @@ use Rattle.balanced.specs.declared.Kind.the-variants.{EndNode, Sink}
 use Rattle.balanced.specs.declared.Line.{Line}
 use Rattle.balanced.specs.Lines.{line}
 use Rattle.balanced.specs.Tree.{isChild, ancestor, sinkBelow, towards, lineOf, networkOf, Windows}
-use Rattle.balanced.specs.Witness.{settings, smallRow, smallTree, fullReadings}
+use Rattle.balanced.specs.Witness.{lossySettings, smallSettings, smallRow, smallTree, soonFrom, fullReadings, lossyRow}
 use Rattle.balanced.proofs.Witnesses.{filled}
 use Rattle.answers.proofs.Computing.{answered}
 use Rattle.report.specs.Text.{header, numbers, lineText, text}
@@ -52,17 +52,17 @@ network : Network
 network = networkOf smallRow loweredLines smallTree (λ v. 0)
 
 windows : Windows smallRow loweredLines smallTree (λ v. 0)
-unfolding answered settings smallRow smallTree loweredLines isChild ancestor sinkBelow towards lineOf networkOf
+unfolding answered lossySettings smallSettings smallRow smallTree loweredLines isChild ancestor sinkBelow towards lineOf networkOf
 windows zero h n = lit≤ tt
 windows (suc zero) h n = lit≤ tt
 windows (suc (suc v)) h n = absurd (omega arith)
 
 full : length (queue (run network fullReadings first 1020) 1) ≡ 3
-unfolding network answered settings smallRow smallTree loweredLines isChild ancestor sinkBelow towards lineOf networkOf bit below fullReadings reading first run symbol serveAll begun serve takeOldest behind idle isStart makeReadings fresh endExchanges Rattle.network.specs.Run.arrivals arrived ends feeds deliver made queue keep
+unfolding network answered lossySettings smallSettings smallRow smallTree loweredLines isChild ancestor sinkBelow towards lineOf networkOf bit below soonFrom fullReadings reading first run symbol serveAll begun serve takeOldest behind idle isStart makeReadings fresh endExchanges Rattle.network.specs.Run.arrivals arrived ends feeds deliver made queue keep
 full = refl
 
 pub lowered-breaks : LoweredBreaks
-unfolding answered settings smallRow smallTree loweredLines row lowered digitsBy decimal ended header numbers lineText text sinkBelow lineOf network networkOf
+unfolding answered lossySettings smallSettings smallRow smallTree loweredLines row lowered digitsBy decimal ended header numbers lineText text sinkBelow lineOf network networkOf
 lowered-breaks promised =
     let keeps = promised refl loweredLines refl in
     let held = keeps smallTree (filled .withinRow) (λ v. 0) windows fullReadings (filled .keepBuckets) (run network fullReadings first) (every-choice-is-a-run network fullReadings first) 1019 in

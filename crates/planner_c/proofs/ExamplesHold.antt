@@ -18,10 +18,10 @@ use Rattle.nodes.proofs.Computing.{lists}
 use Rattle.planner_c.specs.Trees.{planTree, checkTree, treeSpoken, explainTree}
 use Rattle.planner_c.specs.TreeBroken.{pairList}
 use Rattle.planner_c.specs.Reasons.{lineLeft, rowLine, explainRow, plain, lineAmong, explainRefusal, numbered}
-use Rattle.planner_c.specs.Examples.{lent, text, call, planned, refused, Examples, line, explained, Spoken, OtherPlaceBreaks, treePlan, treeCall, treeExplained, TreeExamples}
+use Rattle.planner_c.specs.Examples.{lent, text, call, planned, refused, lossyCall, lossyText, Examples, line, explained, Spoken, OtherPlaceBreaks, treePlan, treeCall, treeExplained, TreeExamples}
 
 pub examples-hold : Examples
-unfolding answered worded ended report.header report.numbers report.lineText report.text toldRefusal told filled room roomed leaves planRow checkRow lent text call planned refused
+unfolding answered worded ended report.header report.numbers report.lineText report.text toldRefusal told filled room roomed leaves planRow checkRow lent text call planned refused lossyCall lossyText
 examples-hold = record {
   check = refl;
   exact = refl;
@@ -33,6 +33,12 @@ examples-hold = record {
   seven = refl;
   sevenBeforeEight = refl;
   oneBeforeEight = refl;
+  lossy = refl;
+  lossyShort = refl;
+  lossMissing = refl;
+  lossBehind = refl;
+  lossOutside = refl;
+  unacknowledged = refl;
 }
 
 pub spoken-hold : Spoken
@@ -74,6 +80,9 @@ tree-examples-hold = record {
   oneLess = refl;
   three = refl;
   tenBeforeThree = refl;
+  lossy = refl;
+  lossOutside = refl;
+  unacknowledged = refl;
   refusedLine = refl;
   plannedLine = refl;
   shortLine = refl;

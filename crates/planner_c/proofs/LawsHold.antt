@@ -13,7 +13,7 @@ use Rattle.refusals.proofs.Numbers.{numbered}
 use Rattle.refusals.proofs.Unbroken.{unbroken-right}
 use Rattle.refusals.proofs.Outcomes.{unbroken-planned}
 use Rattle.settings.specs.declared.Settings.{Settings}
-use Rattle.settings.specs.Columns.{table}
+use Rattle.row.specs.Names.{headingOf, columnsUnder}
 use Rattle.row.specs.Rows.{named, written}
 use Rattle.balanced.specs.Checks as row-checks
 use Rattle.balanced.specs.Lines as row-plan
@@ -80,8 +80,10 @@ pub entry-promises : EntryPromises
 unfolding planRow rowConditions outcomeOf
 entry-promises names row before n q w =
     let s = spelledSettings row in
-    let u = standing text (row-plan.lines s) (named names ++ rowConditions row) before one-text-for-lines n q w in
-    let c = unbroken-right (written 1 table (fields row)) (row-checks.conditions s) (unbroken-right (named names) (rowConditions row) (u .0)) in
+    let h = headingOf names in
+    let of-text = written 1 (columnsUnder h) (fields row) in
+    let u = standing text (row-plan.lines s) (rowConditions h row) before one-text-for-lines n q w in
+    let c = unbroken-right of-text (row-checks.conditions s) (unbroken-right (named h) (of-text ++ row-checks.conditions s) (u .0)) in
     every-plan-keeps s q (unbroken-planned (row-plan.lines s) (row-checks.conditions s) c ∙ ap Planned (u .1))
 
 pub tree-entry-promises : TreeEntryPromises

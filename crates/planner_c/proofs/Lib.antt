@@ -7,8 +7,12 @@ pub mod Leaving
 pub mod ReasonLines
 -- the laws of specs/Laws
 pub mod LawsHold
+-- a row without LOSS and with LOSS 0
+pub mod WithoutLoss
 -- a text that breaks the promise
 pub mod Breaks
+-- a plan without LOSS breaks the promise of a row with LOSS
+pub mod LossBreaks
 -- and texts that break a surveyed tree's
 pub mod TreeBreaks
 -- the examples

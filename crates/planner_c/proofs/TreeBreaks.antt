@@ -15,18 +15,19 @@ use Rattle.network.specs.Examples.{first}
 use Rattle.network.proofs.Oracles.{every-choice-is-a-run}
 use Rattle.balanced.specs.declared.Kind.the-variants.{EndNode, Upward, Sink}
 use Rattle.balanced.specs.Lines.{letter}
+use Rattle.balanced.specs.Witness.{soonFrom}
 use Rattle.report.specs.Text.{numbers}
 use Rattle.report.specs.TreeText.{treeHeader, nodeText, treeText}
 use Rattle.tree.specs.declared.NodeLine.{NodeLine}
 use Rattle.tree.specs.Tree.{Tree}
 use Rattle.tree.specs.Promise.{noLine, route, longest, networkOf, Windows, Held, Keeps}
-use Rattle.tree.specs.Witness.{shortest, pair, fullReadings, shorter, twoHops, hopOffsets, lateReading}
+use Rattle.tree.specs.Witness.{shortest, pair, fullReadings, lossy, shorter, twoHops, hopOffsets, lateReading}
 use Rattle.tree.proofs.Computing.{trees, runs, printed-line}
-use Rattle.tree.proofs.FullQueue.{filled}
+use Rattle.tree.proofs.FullQueue.{filled, pair-readings}
 use Rattle.tree.proofs.TwoHops.{two-links}
 use Rattle.nodes.specs.Survey.{treeIn}
 use Rattle.nodes.proofs.Computing.{lists}
-use Rattle.planner_c.specs.TreeBroken.{pairList, lowBuffer, hopList, lowRoute, lowRoutes, LoweredBreak}
+use Rattle.planner_c.specs.TreeBroken.{pairList, lowBuffer, hopList, lowRoute, lowRoutes, lossless, LoweredBreak}
 
 -- to unfold `texts` is to unfold all that a plan's text is computed with
 texts : Type 0
@@ -56,7 +57,7 @@ pair-windows (suc zero) L = lit≤ tt
 pair-windows (suc (suc i)) L = absurd (omega (arith, L .node))
 
 pair-full : length (queue (run pairNetwork fullReadings first 1020) 1) ≡ 3
-unfolding trees runs printed-line shortest pair lowPair fullReadings pairNetwork
+unfolding trees runs printed-line shortest pair lowPair soonFrom fullReadings pairNetwork
 pair-full = refl
 
 too-many : {n : ℕ} → n ≤ 2 → n ≡ 3 → ⊥
@@ -136,10 +137,43 @@ routes-break keeps =
     by : All (λ f. f .came ≤ f .made + longest (lowHops 1919)) (the-frame ∷ []) → ⊥
     by (each h t) = omega (arith, h)
 
+-- ---- a plan that was made without LOSS: of the frames that are made in symbols 0, 479 and 959, the third is still there at the end of 2400
+
+unfoldable losslessPair : List NodeLine
+losslessPair = printed-line Sink 0 2 2880 0 0 0 3 0 0 ∷ printed-line EndNode 1 2 960 3 2 960 3 1440 1440 ∷ []
+
+lossNetwork : Network
+lossNetwork = networkOf lossy losslessPair pair 1 (λ i. 0)
+
+lossless-stands : treeText losslessPair ≡ take 115 lossless
+unfolding texts losslessPair lossless
+lossless-stands = refl
+
+loss-windows : Windows lossy losslessPair lossNetwork (λ i. 0)
+unfolding trees runs printed-line lossy pair losslessPair lossNetwork
+loss-windows zero L = lit≤ tt
+loss-windows (suc zero) L = lit≤ tt
+loss-windows (suc (suc i)) L = absurd (omega (arith, L .node))
+
+third : queue (run lossNetwork (soonFrom 0) first 2401) 1 ≡ record { sensor = 1; made = 959; came = 959 } ∷ []
+unfolding trees runs printed-line lossy pair losslessPair soonFrom lossNetwork
+third = refl
+
+too-late : All (λ (f : Frame). 2400 ≤ f .made + 1440) (record { sensor = 1; made = 959; came = 959 } ∷ []) → ⊥
+too-late (each h t) = omega (arith, h)
+
+loss-breaks : ¬ Keeps lossy pair 1 losslessPair
+unfolding trees runs printed-line lossy pair losslessPair lossNetwork
+loss-breaks keeps =
+    let held = keeps (λ i. 0) loss-windows (soonFrom 0) (pair-readings 5 1 1 1 0) (run lossNetwork (soonFrom 0) first) (every-choice-is-a-run lossNetwork (soonFrom 0) first) 2400 in
+    let waits : All (λ (f : Frame). 2400 ≤ f .made + 1440) (queue (run lossNetwork (soonFrom 0) first 2401) 1) = held .underWay 1 (lit< tt) in
+    too-late (rw third at waits)
+
 pub lowered-break : LoweredBreak
-unfolding shortest shorter
+unfolding shortest shorter lossy
 lowered-break = record {
   buffer = λ promised. pair-breaks (subst (λ (t : Tree). Keeps shortest t 1 lowPair) pair-listed (promised refl lowPair pair-stands));
   route = λ promised. route-breaks (subst (λ (t : Tree). Keeps shorter t 1 (lowHops 3515)) hop-listed (promised refl (lowHops 3515) route-stands));
   routes = λ promised. routes-break (subst (λ (t : Tree). Keeps shorter t 1 (lowHops 1919)) hop-listed (promised refl (lowHops 1919) routes-stand));
+  loss = λ promised. loss-breaks (subst (λ (t : Tree). Keeps lossy t 1 losslessPair) pair-listed (promised refl losslessPair lossless-stands));
 }

@@ -36,6 +36,13 @@ planned n = call "BO SO H NR NE OWN SINK BURST RATE HEAD DATA ACK" "0 0 0 0 3 0 
 unfoldable pub refused : ℕ → Left
 refused n = call "BO SO H NR NE OWN SINK BURST RATE HEAD DATA ACK" "0 0 0 0 5 0 0 1 1 19 7 0" n
 
+-- a call under 13 names, and the text of a plan with LOSS 1, which has 105 bytes
+unfoldable pub lossyCall : String → ℕ → Left
+lossyCall row n = call "BO SO H NR NE OWN SINK BURST RATE HEAD DATA ACK LOSS" row n
+
+unfoldable pub lossyText : List ℕ
+lossyText = ascii "KIND DEPTH RATE BURST SLOTS FRAMES LATENCY BUFFER DELAY\nE 0 2 960 6 2 960 3 1440\nS 0 2 2880 0 0 0 3 1440\n"
+
 pub record Examples : Type 0 where
   pub check : checkRow (ascii "BO SO H NR NE OWN SINK BURST RATE HEAD DATA ACK") (ascii "0 0 0 0 3 0 0 1 1 19 7 0") ≡ answer 0 0 106
   -- a buffer exactly as long as the text, and longer ones
@@ -50,6 +57,13 @@ pub record Examples : Type 0 where
   pub seven : refused 300 ≡ left (answer 7 0 0) (lent 300)
   pub sevenBeforeEight : refused 0 ≡ left (answer 7 0 0) []
   pub oneBeforeEight : call "" "0 0 0 0 3 0 0 1 1 19 7 0" 10 ≡ left (answer 1 0 0) (lent 10)
+  -- 13 names (document 02, E5)
+  pub lossy : lossyCall "0 0 0 0 1 0 0 1 2 5 1 1 1" 106 ≡ left (answer 0 0 105) (lossyText ++ lent 1)
+  pub lossyShort : lossyCall "0 0 0 0 1 0 0 1 2 5 1 1 1" 104 ≡ left (answer 8 0 0) (lent 104)
+  pub lossMissing : lossyCall "0 0 0 0 1 0 0 1 2 5 1 1" 3 ≡ left (answer 2 13 0) (lent 3)
+  pub lossBehind : lossyCall "0 0 0 0 1 0 0 1 2 5 1 1 1 1" 3 ≡ left (answer 2 14 0) (lent 3)
+  pub lossOutside : lossyCall "0 0 0 0 1 0 0 1 2 5 1 1 8" 3 ≡ left (answer 3 13 0) (lent 3)
+  pub unacknowledged : lossyCall "0 0 0 0 1 0 0 1 2 5 1 0 1" 3 ≡ left (answer 4 13 0) (lent 3)
 
 -- P4's line, which has 82 bytes, and that of a planned row, which has 19
 unfoldable pub line : List ℕ
@@ -88,19 +102,23 @@ treePlan = ascii "KIND DEPTH RATE BURST SLOTS FRAMES LATENCY BUFFER DELAY ROUTE\
 
 -- a call of the entry that writes, with this BO, this sink and that many bytes lent; and of the one that speaks
 unfoldable pub treeCall : ℕ → ℕ → ℕ → Left
-treeCall bo sink n = planTree pairList (beside bo 0 17 1 0) sink (lent n)
+treeCall bo sink n = planTree pairList (beside bo 0 17 1 0 0) sink (lent n)
 
 unfoldable pub treeExplained : ℕ → ℕ → Left
-treeExplained sink n = explainTree pairList (beside 0 0 17 1 0) sink (lent n)
+treeExplained sink n = explainTree pairList (beside 0 0 17 1 0 0) sink (lent n)
 
 pub record TreeExamples : Type 0 where
-  pub check : checkTree pairList (beside 0 0 17 1 0) 1 ≡ answer 0 0 115
+  pub check : checkTree pairList (beside 0 0 17 1 0 0) 1 ≡ answer 0 0 115
   pub exact : treeCall 0 1 115 ≡ left (answer 0 0 115) treePlan
   pub oneMore : treeCall 0 1 116 ≡ left (answer 0 0 115) (treePlan ++ lent 1)
   pub oneLess : treeCall 0 1 114 ≡ left (answer 8 0 0) (lent 114)
   -- 10 before 3, and both before 8
   pub three : treeCall 15 1 0 ≡ left (answer 3 1 0) []
   pub tenBeforeThree : treeCall 15 2 0 ≡ left (answer 10 0 0) []
+  -- LOSS beside (document 02, E5)
+  pub lossy : checkTree pairList (beside 0 0 5 1 1 1) 1 ≡ answer 0 0 115
+  pub lossOutside : planTree pairList (beside 0 0 5 1 1 8) 1 (lent 2) ≡ left (answer 3 13 0) (lent 2)
+  pub unacknowledged : planTree pairList (beside 0 0 5 1 0 1) 1 (lent 2) ≡ left (answer 4 13 0) (lent 2)
   -- lines of English
   pub refusedLine : treeExplained 2 35 ≡ left (answer 10 0 34) (ascii "The sink is no router of the tree." ++ lent 1)
   pub plannedLine : treeExplained 1 20 ≡ left (answer 0 0 20) (ascii "The tree is planned.")

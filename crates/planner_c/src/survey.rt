@@ -1,4 +1,4 @@
-// The entries for C that plan surveyed trees (document 02, E3): a node list as bytes, and beside it numbers.
+// The entries for C that plan surveyed trees (document 02, E3 and E5): a node list as bytes, and beside it numbers.
 ghost use mathlib.Core.Path.{_≡_};
 ghost use Prim.Native.Nat.{_≤_};
 ghost use lib.ListN.{length};
@@ -31,8 +31,9 @@ pub extern "C" fn planner_check_tree(
     payload: u32,
     ack: u32,
     sink: u32,
+    loss: u32,
 ) -> Answer
-    ensures { λ r. ⌜ r ≡ checkTree (now (nodes .entry)) (definition.beside bo so head payload ack) sink ⌝ }
+    ensures { λ r. ⌜ r ≡ checkTree (now (nodes .entry)) (definition.beside bo so head payload ack loss) sink ⌝ }
     ensures { λ r. ⌜ r .length ≤ 48576 ⌝ }
 {
     let b = beside(
@@ -41,6 +42,7 @@ pub extern "C" fn planner_check_tree(
         head as u64,
         payload as u64,
         ack as u64,
+        loss as u64,
     );
     let mut space = [0u8; 1];
     answer_of(plan_tree(nodes, b, sink as u64, &mut space))
@@ -57,10 +59,11 @@ pub extern "C" fn planner_plan_tree(
     payload: u32,
     ack: u32,
     sink: u32,
+    loss: u32,
     out: &mut [u8],
 ) -> Answer
-    ensures { λ r. ⌜ left r (now (out .exit)) ≡ planTree (now (nodes .entry)) (definition.beside bo so head payload ack) sink (now (out .entry)) ⌝ }
-    ensures { λ r. ⌜ PromisedTree (now (nodes .entry)) (definition.beside bo so head payload ack) sink r (now (out .exit)) ⌝ }
+    ensures { λ r. ⌜ left r (now (out .exit)) ≡ planTree (now (nodes .entry)) (definition.beside bo so head payload ack loss) sink (now (out .entry)) ⌝ }
+    ensures { λ r. ⌜ PromisedTree (now (nodes .entry)) (definition.beside bo so head payload ack loss) sink r (now (out .exit)) ⌝ }
 {
     let b = beside(
         bo as u64,
@@ -68,6 +71,7 @@ pub extern "C" fn planner_plan_tree(
         head as u64,
         payload as u64,
         ack as u64,
+        loss as u64,
     );
     if out.len() < LONGEST_TREE {
         return plan_where_room(nodes, b, sink as u64, out);
@@ -86,9 +90,10 @@ pub extern "C" fn planner_explain_tree(
     payload: u32,
     ack: u32,
     sink: u32,
+    loss: u32,
     out: &mut [u8],
 ) -> Answer
-    ensures { λ r. ⌜ left r (now (out .exit)) ≡ explainTree (now (nodes .entry)) (definition.beside bo so head payload ack) sink (now (out .entry)) ⌝ }
+    ensures { λ r. ⌜ left r (now (out .exit)) ≡ explainTree (now (nodes .entry)) (definition.beside bo so head payload ack loss) sink (now (out .entry)) ⌝ }
     ensures { λ r. ⌜ ReadAgain r (now (out .exit)) ⌝ }
 {
     let b = beside(
@@ -97,6 +102,7 @@ pub extern "C" fn planner_explain_tree(
         head as u64,
         payload as u64,
         ack as u64,
+        loss as u64,
     );
     let mut space = [0u8; 1];
     let plan = plan_tree(nodes, b, sink as u64, &mut space);

@@ -10,12 +10,12 @@ use Rattle.report.specs.Text.{numbers, refusalText}
 use Rattle.report.specs.TreeText.{treeHeader, nodeText, treeText}
 use Rattle.planner.specs.Plans.{printed}
 use Rattle.batch.specs.Output.{tooLong}
-use Rattle.printout.specs.Output.{valueOf, isUnreadable, argued, besideOf, sinkOf, argumentConditions, callOutcome, treeOutput}
+use Rattle.printout.specs.Output.{valueOf, isUnreadable, lossIn, argued, besideOf, sinkOf, argumentConditions, callOutcome, treeOutput}
 use Rattle.printout.specs.Examples.{argumentAt, argumentsIn, balancedList, common, brokenList, examples, ours, ExamplesHold}
 
 -- to unfold `outputs` is to unfold all that an output is computed with
 outputs : Type 0
-unfolding lists digitsBy decimal numberIn joined ended conflictPlace treeNumber treePlace numberOf placeOf letter numbers refusalText treeHeader nodeText treeText tooLong valueOf isUnreadable argued besideOf sinkOf argumentConditions callOutcome printed treeOutput argumentAt argumentsIn
+unfolding lists digitsBy decimal numberIn joined ended conflictPlace treeNumber treePlace numberOf placeOf letter numbers refusalText treeHeader nodeText treeText tooLong valueOf isUnreadable lossIn argued besideOf sinkOf argumentConditions callOutcome printed treeOutput argumentAt argumentsIn
 outputs = Unit
 
 pub examples-hold : ExamplesHold

@@ -26,7 +26,7 @@ use Rattle.refusals.specs.Outcome.{Planned, Refused}
 use Rattle.nodes.specs.Survey.{treeIn, surveyed, outcomeIn}
 use Rattle.printout.specs.declared.Arguments.{Arguments}
 use Rattle.batch.specs.Output.{tooLong}
-use Rattle.printout.specs.Output.{isUnreadable, argued, besideOf, sinkOf, argumentConditions, callOutcome, treeOutput}
+use Rattle.printout.specs.Output.{isUnreadable, lossIn, argued, besideOf, sinkOf, argumentConditions, callOutcome, treeOutput}
 
 -- ---- numbers 9, 10 and 2
 
@@ -95,13 +95,18 @@ module _ (a : Arguments) where
           two-at-ack e = rw (bo, so, head, payload, e)
 
           module _ (ack : isUnreadable (a .ack) ≡ false) where
-            pub two-after : a .more ≡ true → Broken (TextAfter 13) ≡ verdict (argued a)
+            pub two-at-loss : isUnreadable (lossIn a) ≡ true → Broken (Unreadable 13) ≡ verdict (argued a)
             unfolding argued firstBroken
-            two-after e = rw (bo, so, head, payload, ack, e)
+            two-at-loss e = rw (bo, so, head, payload, ack, e)
 
-            pub two-kept : a .more ≡ false → Kept ≡ verdict (argued a)
-            unfolding argued firstBroken
-            two-kept e = rw (bo, so, head, payload, ack, e)
+            module _ (loss : isUnreadable (lossIn a) ≡ false) where
+              pub two-after : 7 < a .count → Broken (TextAfter 14) ≡ verdict (argued a)
+              unfolding argued firstBroken
+              two-after h = rw (bo, so, head, payload, ack, loss, lt-ltb 7 (a .count) h)
+
+              pub two-kept : a .count ≤ 7 → Kept ≡ verdict (argued a)
+              unfolding argued firstBroken
+              two-kept h = rw (bo, so, head, payload, ack, loss, le-ltb 7 (a .count) h)
 
 -- ---- all that is printed
 

@@ -5,7 +5,6 @@ use mathlib.Core.Path.{_≡_}
 use mathlib.Core.List.{List, [], _∷_, map}
 use Prim.Native.Nat.{ℕ}
 use Prim.Native.String.{String}
-use lib.Dec.{ltb}
 use lib.ListN.{length, getD}
 use Rattle.decimal.specs.Ascii.{ascii}
 use Rattle.decimal.specs.declared.Number.{Number}
@@ -18,7 +17,7 @@ use Rattle.printout.specs.Output.{treeOutput}
 unfoldable pub argumentAt : List String → ℕ → Number
 argumentAt words i = numberIn (ascii (getD words i ""))
 
--- the arguments that words are read as: BO SO HEAD DATA ACK SINK
+-- the arguments that words are read as: BO SO HEAD DATA ACK SINK LOSS
 unfoldable pub argumentsIn : List String → Arguments
 argumentsIn words = record {
   bo = argumentAt words 0;
@@ -27,7 +26,8 @@ argumentsIn words = record {
   payload = argumentAt words 3;
   ack = argumentAt words 4;
   sink = argumentAt words 5;
-  more = ltb 6 (length words);
+  loss = argumentAt words 6;
+  count = length words;
 }
 
 -- what an example is of, its arguments, its input's lines, and what is printed
@@ -70,6 +70,15 @@ examples =
     ∷ "E 2 1 245760 1 9 245032 2 272339 272339"
     ∷ "E 2 1 245760 1 9 245032 2 272339 953227"
     ∷ [])
+    ∷ example "P1 acknowledged, LOSS 2: exchanges of 138 + 2 × 158 = 454" ("8" ∷ "4" ∷ "19" ∷ "7" ∷ "1" ∷ "1" ∷ "2" ∷ []) balancedList
+    ("KIND DEPTH RATE BURST SLOTS FRAMES LATENCY BUFFER DELAY ROUTE"
+    ∷ "S 0 3 1966080 0 0 0 8 0 0"
+    ∷ "U 1 1 491520 1 2 245760 3 491520 491520"
+    ∷ "U 1 1 491520 1 2 245760 3 491520 491520"
+    ∷ "E 1 1 245760 1 2 245760 2 368640 368640"
+    ∷ "E 2 1 245760 1 2 245760 2 368640 860160"
+    ∷ "E 2 1 245760 1 2 245760 2 368640 860160"
+    ∷ [])
     ∷ example "10 before 2: node 2's line, and no argument" [] brokenList ("R 10 2" ∷ [])
     ∷ example "10: no sink, before 2 of BO" [] balancedList ("R 10 0" ∷ [])
     ∷ example "10: a sink that is no number" (common "x") balancedList ("R 10 0" ∷ [])
@@ -79,7 +88,12 @@ examples =
     ∷ example "2: HEAD below zero" ("8" ∷ "4" ∷ "-1" ∷ "7" ∷ "0" ∷ "1" ∷ []) balancedList ("R 2 10" ∷ [])
     ∷ example "2: DATA of five digits" ("8" ∷ "4" ∷ "19" ∷ "10000" ∷ "0" ∷ "1" ∷ []) balancedList ("R 2 11" ∷ [])
     ∷ example "2: ACK in two parts" ("8" ∷ "4" ∷ "19" ∷ "7" ∷ "0 " ∷ "1" ∷ []) balancedList ("R 2 12" ∷ [])
-    ∷ example "2: one argument more, before 3 of BO" ("15" ∷ "4" ∷ "19" ∷ "7" ∷ "0" ∷ "1" ∷ "0" ∷ []) balancedList ("R 2 13" ∷ [])
+    ∷ example "2: LOSS empty, before 3 of BO" ("15" ∷ "4" ∷ "19" ∷ "7" ∷ "0" ∷ "1" ∷ "" ∷ []) balancedList ("R 2 13" ∷ [])
+    ∷ example "2: one argument more, before 3 of BO" ("15" ∷ "4" ∷ "19" ∷ "7" ∷ "0" ∷ "1" ∷ "0" ∷ "0" ∷ []) balancedList ("R 2 14" ∷ [])
+    ∷ example "2: LOSS before one argument more" ("15" ∷ "4" ∷ "19" ∷ "7" ∷ "0" ∷ "1" ∷ "x" ∷ "0" ∷ []) balancedList ("R 2 13" ∷ [])
+    ∷ example "3: LOSS" ("8" ∷ "4" ∷ "19" ∷ "7" ∷ "1" ∷ "1" ∷ "8" ∷ []) balancedList ("R 3 13" ∷ [])
+    ∷ example "4: LOSS without ACK" ("8" ∷ "4" ∷ "19" ∷ "7" ∷ "0" ∷ "1" ∷ "1" ∷ []) balancedList ("R 4 13" ∷ [])
+    ∷ example "4: DATA before LOSS" ("8" ∷ "4" ∷ "126" ∷ "2" ∷ "0" ∷ "1" ∷ "1" ∷ []) balancedList ("R 4 11" ∷ [])
     ∷ example "3: BO" ("15" ∷ "4" ∷ "19" ∷ "7" ∷ "0" ∷ "1" ∷ []) balancedList ("R 3 1" ∷ [])
     ∷ example "4: SO above BO" ("4" ∷ "8" ∷ "19" ∷ "7" ∷ "0" ∷ "1" ∷ []) balancedList ("R 4 2" ∷ [])
     ∷ example "6: three routers, two superframes" ("5" ∷ "4" ∷ "19" ∷ "7" ∷ "0" ∷ "1" ∷ []) balancedList ("R 6 0" ∷ [])

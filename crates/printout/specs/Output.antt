@@ -1,6 +1,7 @@
--- What program `plan_tree` prints for its arguments and its input (document 02, E3). Assumes nothing: these are definitions.
+-- What program `plan_tree` prints for its arguments and its input (document 02, E3 and E5). Assumes nothing: these are definitions.
 use Prim.Native.Nat.{ℕ}
-use mathlib.Core.Bool.{Bool, true, false}
+use mathlib.Core.Bool.{Bool, true, false, cond}
+use lib.Dec.{ltb}
 use mathlib.Core.List.{List, [], _∷_, _++_}
 use Rattle.decimal.specs.declared.Number.{Number}
 use Rattle.decimal.specs.declared.Number.the-variants as number
@@ -28,6 +29,10 @@ unfoldable pub isUnreadable : Number → Bool
 isUnreadable (number.Value v) = false
 isUnreadable number.Unreadable = true
 
+-- LOSS, a seventh argument: 0 where it is not given
+unfoldable pub lossIn : Arguments → Number
+lossIn a = cond (ltb 6 (a .count)) (a .loss) (number.Value 0)
+
 -- number 2: "value unreadable or missing", at document 01's columns, as 3 and 4 have them; "text after the last", one argument more
 abbrev pub unread : Number → ℕ → Condition Refusal
 unread n column = condition (isUnreadable n) (Unreadable column)
@@ -35,11 +40,12 @@ unread n column = condition (isUnreadable n) (Unreadable column)
 unfoldable pub argued : Arguments → List (Condition Refusal)
 argued a =
     unread (a .bo) 1 ∷ unread (a .so) 2 ∷ unread (a .head) 10 ∷ unread (a .payload) 11 ∷ unread (a .ack) 12
-    ∷ condition (a .more) (TextAfter 13) ∷ []
+    ∷ unread (lossIn a) 13
+    ∷ condition (ltb 7 (a .count)) (TextAfter 14) ∷ []
 
 -- the settings beside, and the sink's node: number 0 is none, so that a sink that is missing or no number is refused with 10
 unfoldable pub besideOf : Arguments → Settings
-besideOf a = beside (valueOf (a .bo)) (valueOf (a .so)) (valueOf (a .head)) (valueOf (a .payload)) (valueOf (a .ack))
+besideOf a = beside (valueOf (a .bo)) (valueOf (a .so)) (valueOf (a .head)) (valueOf (a .payload)) (valueOf (a .ack)) (valueOf (lossIn a))
 
 unfoldable pub sinkOf : Arguments → ℕ
 sinkOf a = valueOf (a .sink)

@@ -1,4 +1,4 @@
-// What program `plan_tree` prints for its arguments and its input (document 02, E3): the plan's text, or an `R` line.
+// What program `plan_tree` prints for its arguments and its input (document 02, E3 and E5): the plan's text, or an `R` line.
 ghost use mathlib.Core.Path.{_≡_};
 ghost use Prim.Native.Nat.{_≤_};
 ghost use lib.ListN.{length};
@@ -6,7 +6,7 @@ ghost use lib.Seq.{sets};
 ghost use Rattle.refusals.specs.declared.Verdict.the-variants.{Kept, Broken};
 ghost use Rattle.refusals.specs.declared.Refusal.the-variants.{Unreadable};
 ghost use Rattle.refusals.specs.Conditions.{firstBroken};
-ghost use Rattle.printout.specs.Output.{valueOf, argued, argumentConditions, besideOf, sinkOf, treeOutput};
+ghost use Rattle.printout.specs.Output.{valueOf, lossIn, argued, argumentConditions, besideOf, sinkOf, treeOutput};
 use batch::LIMIT;
 use decimal::Number;
 use refusals::Refusal;
@@ -17,7 +17,7 @@ use surveys::beside;
 use surveys::check_list;
 use surveys::plan_tree;
 
-// The arguments as they were read: BO SO HEAD DATA ACK SINK, and whether there are more.
+// The arguments as they were read, BO SO HEAD DATA ACK SINK LOSS, and how many there are.
 pub struct Arguments {
     pub bo: Number,
     pub so: Number,
@@ -25,7 +25,8 @@ pub struct Arguments {
     pub payload: Number,
     pub ack: Number,
     pub sink: Number,
-    pub more: bool,
+    pub loss: Number,
+    pub count: usize,
 }
 
 // Puts what is printed at the front of lent memory, as far as there is room, and answers its length: 48,576 bytes are always enough.
@@ -60,7 +61,7 @@ fn check_call(arguments: Arguments, input: &[u8]) -> Verdict
     check_arguments(arguments)
 }
 
-// Number 2: an argument that cannot be read, at its column in a row; one argument more, where column 13 would be.
+// Number 2: an argument that cannot be read, at its column in a row; one argument more, where column 14 would be.
 fn check_arguments(arguments: Arguments) -> Verdict
     ensures { λ r. ⌜ r ≡ firstBroken Broken Kept (argued arguments) ⌝ }
 {
@@ -84,8 +85,12 @@ fn check_arguments(arguments: Arguments) -> Verdict
     if let Number::Unreadable = ack {
         return unreadable(12);
     }
-    if arguments.more {
-        return Verdict::Broken(Refusal::TextAfter { column: 13 });
+    let loss = loss_of(arguments);
+    if let Number::Unreadable = loss {
+        return unreadable(13);
+    }
+    if 7 < arguments.count {
+        return Verdict::Broken(Refusal::TextAfter { column: 14 });
     }
     Verdict::Kept
 }
@@ -106,13 +111,26 @@ fn settings_of(arguments: Arguments) -> Settings
     let head = arguments.head;
     let payload = arguments.payload;
     let ack = arguments.ack;
+    let loss = loss_of(arguments);
     beside(
         value_of(bo),
         value_of(so),
         value_of(head),
         value_of(payload),
         value_of(ack),
+        value_of(loss),
     )
+}
+
+// LOSS: the seventh argument, or 0 where there is none.
+fn loss_of(arguments: Arguments) -> Number
+    ensures { λ r. ⌜ r ≡ lossIn arguments ⌝ }
+{
+    if 6 < arguments.count {
+        let loss = arguments.loss;
+        return loss;
+    }
+    Number::Value(0)
 }
 
 // The sink's node.

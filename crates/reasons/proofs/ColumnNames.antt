@@ -14,7 +14,7 @@ use Rattle.decimal.specs.Decimal.{decimal}
 use Rattle.decimal.proofs.Writing.{written-in-decimal, at-most-twenty}
 use Rattle.lines.specs.Text.{same}
 use Rattle.lines.proofs.Sameness.{same-equal}
-use Rattle.settings.specs.Columns.{Column, column, table, columnAt}
+use Rattle.settings.specs.Columns.{Column, column, twelve, table, columnAt}
 use Rattle.settings.proofs.Ranging.{table-step}
 use Rattle.reasons.specs.declared.Match.{Match}
 use Rattle.reasons.specs.declared.Match.the-variants.{At, Nowhere}
@@ -48,22 +48,22 @@ unfolding isAt
 is-at (At p) q e = ap At (eqb-true p q e)
 is-at Nowhere q e = absurd (false≢true e)
 
--- a column with a name is one of the twelve
-named-range : (k : ℕ) → named k ≡ true → (1 ≤ k) × (k ≤ 12)
-unfolding named table
-named-range k e = let h = and-eq-true-iff (leb 1 k) (leb k 12) .0 e in (leb-true 1 k (h .0), leb-true k 12 (h .1))
+-- a column with a name is one of the thirteen
+named-range : (k : ℕ) → named k ≡ true → (1 ≤ k) × (k ≤ 13)
+unfolding named twelve table
+named-range k e = let h = and-eq-true-iff (leb 1 k) (leb k 13) .0 e in (leb-true 1 k (h .0), leb-true k 13 (h .1))
 
 named-read : (k : ℕ) → named k ≡ true → columnIn (columnName k) ≡ At k
-unfolding allBelow isAt ascii digits same table columnAt named columnName columnFrom columnIn
+unfolding allBelow isAt ascii digits same twelve table columnAt named columnName columnFrom columnIn
 named-read k e =
     let r = named-range k e in
     let z : suc (k - 1) ≡ k = omega (arith, r .0) in
-    rw z at (is-at (columnIn (columnName (suc (k - 1)))) (suc (k - 1)) (each-below (λ j. isAt (columnIn (columnName (suc j))) (suc j)) 12 refl (k - 1) (omega (arith, r .0, r .1))))
+    rw z at (is-at (columnIn (columnName (suc (k - 1)))) (suc (k - 1)) (each-below (λ j. isAt (columnIn (columnName (suc j))) (suc j)) 13 refl (k - 1) (omega (arith, r .0, r .1))))
 
--- a column behind the twelve has no name
-pub name-above : (k : ℕ) → 12 < k → columnName k ≡ decimal k
-unfolding columnName named table
-name-above k h = rw (le-leb 1 k (omega arith), lt-leb k 12 h)
+-- a column behind the thirteen has no name
+pub name-above : (k : ℕ) → 13 < k → columnName k ≡ decimal k
+unfolding columnName named twelve table
+name-above k h = rw (le-leb 1 k (omega arith), lt-leb k 13 h)
 
 -- ---- a number is no name
 
@@ -86,7 +86,7 @@ numbers-apart other k (c ∷ cs) w l d =
     rw (digits-apart w (ascii (c .name)) d (not-true (digits (ascii (c .name))) (h .0))) (numbers-apart other (suc k) cs w (h .1) d)
 
 unnamed-read : (k : ℕ) → k < 2 ^ 32 → named k ≡ false → columnIn (columnName k) ≡ At k
-unfolding columnIn columnName unnamed lettered ascii digits table
+unfolding columnIn columnName unnamed lettered ascii digits twelve table
 unnamed-read k h e =
     let d = written-in-decimal k .onlyDigits in
     rw (e, place-decimal k h, e) (numbers-apart (At k) 1 table (decimal k) refl d)
@@ -100,11 +100,11 @@ column-read k h = by (named k) refl where
 
 -- and is a word
 named-word : (k : ℕ) → named k ≡ true → isWord (columnName k) ≡ true
-unfolding allBelow ascii table columnAt named columnName isWord wordByte
+unfolding allBelow ascii twelve table columnAt named columnName isWord wordByte
 named-word k e =
     let r = named-range k e in
     let z : suc (k - 1) ≡ k = omega (arith, r .0) in
-    rw z at (each-below (λ j. isWord (columnName (suc j))) 12 refl (k - 1) (omega (arith, r .0, r .1)))
+    rw z at (each-below (λ j. isWord (columnName (suc j))) 13 refl (k - 1) (omega (arith, r .0, r .1)))
 
 pub column-word : (k : ℕ) → isWord (columnName k) ≡ true
 unfolding columnName
@@ -115,11 +115,11 @@ column-word k = by (named k) refl where
 
 -- of at most 20 bytes
 named-short : (k : ℕ) → named k ≡ true → length (columnName k) ≤ 20
-unfolding allBelow ascii table columnAt named columnName
+unfolding allBelow ascii twelve table columnAt named columnName
 named-short k e =
     let r = named-range k e in
     let z : suc (k - 1) ≡ k = omega (arith, r .0) in
-    rw z at (leb-true (length (columnName (suc (k - 1)))) 20 (each-below (λ j. leb (length (columnName (suc j))) 20) 12 refl (k - 1) (omega (arith, r .0, r .1))))
+    rw z at (leb-true (length (columnName (suc (k - 1)))) 20 (each-below (λ j. leb (length (columnName (suc j))) 20) 13 refl (k - 1) (omega (arith, r .0, r .1))))
 
 pub column-short : (k : ℕ) → k < 2 ^ 64 → length (columnName k) ≤ 20
 unfolding columnName
@@ -164,10 +164,10 @@ unnamed-writes w p e = by (placeIn w) refl e where
 
 -- a name that is one of the table's
 name-writes : (w : List ℕ) (p j : ℕ) → j < length table → p ≡ 1 + j → ascii (getD table j (column "" 0 0) .name) ≡ w → columnName p ≡ w
-unfolding columnName named columnAt table
+unfolding columnName named columnAt twelve table
 name-writes w p j h q n =
     let z : p - 1 ≡ j = omega (arith, q) in
-    rw (le-leb 1 p (omega (arith, q)), le-leb p 12 (omega (arith, q, h)), z) n
+    rw (le-leb 1 p (omega (arith, q)), le-leb p 13 (omega (arith, q, h)), z) n
 
 pub column-writes : (w : List ℕ) (p : ℕ) → columnIn w ≡ At p → columnName p ≡ w
 unfolding columnIn
@@ -179,11 +179,11 @@ column-writes w p e = by (whose (unnamed (placeIn w)) 1 table w p e) where
 -- ---- columns one by one, as code looks for them
 
 -- the name of the column behind the first k
-pub name-at : (k : ℕ) → k < 12 → columnName (suc k) ≡ ascii (columnAt k .name)
-unfolding columnName named table
-name-at k h = let z : suc k - 1 ≡ k = omega arith in rw (le-leb 1 (suc k) (omega arith), le-leb (suc k) 12 h, z)
+pub name-at : (k : ℕ) → k < 13 → columnName (suc k) ≡ ascii (columnAt k .name)
+unfolding columnName named twelve table
+name-at k h = let z : suc k - 1 ≡ k = omega arith in rw (le-leb 1 (suc k) (omega arith), le-leb (suc k) 13 h, z)
 
-module _ (other : Match) (w : List ℕ) (k : ℕ) (h : k < 12) where
+module _ (other : Match) (w : List ℕ) (k : ℕ) (h : k < 13) where
   -- it is this one, or one of those behind it
   pub column-found : same w (columnName (suc k)) ≡ true → columnFrom other (suc k) (drop k table) w ≡ At (suc k)
   unfolding columnFrom
@@ -194,6 +194,6 @@ module _ (other : Match) (w : List ℕ) (k : ℕ) (h : k < 12) where
   column-later e = rw (table-step k h, sym (name-at k h), e)
 
 -- none is left
-pub column-none : (other : Match) (w : List ℕ) (k : ℕ) → columnFrom other k (drop 12 table) w ≡ other
-unfolding columnFrom table
+pub column-none : (other : Match) (w : List ℕ) (k : ℕ) → columnFrom other k (drop 13 table) w ≡ other
+unfolding columnFrom twelve table
 column-none other w k = refl

@@ -13,10 +13,10 @@ use Rattle.refusals.specs.declared.Refusal.the-variants.{Names, Unreadable, Tex
 use Rattle.refusals.specs.declared.TreeRefusal.{TreeRefusal}
 use Rattle.refusals.specs.declared.TreeRefusal.the-variants.{NodeNames, NodeLine, SinkNode, RouterReservations, RouterSlots}
 use Rattle.refusals.specs.declared.Conflict.{Conflict}
-use Rattle.refusals.specs.declared.Conflict.the-variants.{Orders, Routers, Sensors, SinkDepth, SinkBranches, FrameLength}
+use Rattle.refusals.specs.declared.Conflict.the-variants.{Orders, Routers, Sensors, SinkDepth, SinkBranches, FrameLength, Unacknowledged}
 use Rattle.refusals.specs.Refusals.{conflictPlace, treeNumber, treePlace, numberOf, placeOf}
 use Rattle.measure.specs.Measures.{slots}
-use Rattle.settings.specs.Columns.{table, columnAt}
+use Rattle.settings.specs.Columns.{twelve, table, columnAt}
 use Rattle.reasons.specs.declared.Match.{Match}
 use Rattle.reasons.specs.declared.Match.the-variants.{At, Nowhere}
 use Rattle.reasons.specs.declared.Reading.the-variants.{Reason}
@@ -69,13 +69,14 @@ second vs = getD (drop 1 vs) 0 0
 
 module _ (t : List ℕ) (p : ℕ) where
   conflict-of : (c : Conflict) → Fills (conflictPlace c) p (form (AtOdds c)) t → ReasonOf t 4 p
-  unfolding ascii table columnAt conflictPlace numberOf placeOf named columnName ruleOf phraseOf valuesAtOdds valuesOf partOf partText taken filled reason stood placed
+  unfolding ascii twelve table columnAt conflictPlace numberOf placeOf named columnName ruleOf phraseOf valuesAtOdds valuesOf partOf partText taken filled reason stood placed
   conflict-of (Orders so bo) i = record { refusal = AtOdds (Orders (first (i .values)) (second (i .values))); itsLine = i .fills; itsNumber = refl; itsPlace = i .stays }
   conflict-of (Routers nr h) i = record { refusal = AtOdds (Routers (first (i .values)) (second (i .values))); itsLine = i .fills; itsNumber = refl; itsPlace = i .stays }
   conflict-of (Sensors ne own) i = record { refusal = AtOdds (Sensors (first (i .values)) (second (i .values))); itsLine = i .fills; itsNumber = refl; itsPlace = i .stays }
   conflict-of (SinkDepth sink h) i = record { refusal = AtOdds (SinkDepth (first (i .values)) (second (i .values))); itsLine = i .fills; itsNumber = refl; itsPlace = i .stays }
   conflict-of (SinkBranches sink nr) i = record { refusal = AtOdds (SinkBranches (first (i .values)) (second (i .values))); itsLine = i .fills; itsNumber = refl; itsPlace = i .stays }
   conflict-of (FrameLength head payload) i = record { refusal = AtOdds (FrameLength (first (i .values)) (second (i .values))); itsLine = i .fills; itsNumber = refl; itsPlace = i .stays }
+  conflict-of (Unacknowledged loss ack) i = record { refusal = AtOdds (Unacknowledged (first (i .values)) (second (i .values))); itsLine = i .fills; itsNumber = refl; itsPlace = i .stays }
 
   tree-of : (r : TreeRefusal) → Fills (treePlace r) p (form (InTree r)) t → ReasonOf t (treeNumber r) p
   unfolding ascii treeNumber treePlace numberOf placeOf treePhrase phraseOf treeValues valuesOf partOf partText taken filled reason stood placed

@@ -15,9 +15,9 @@ use Rattle.refusals.specs.declared.Refusal.the-variants.{Names, Unreadable, Tex
 use Rattle.refusals.specs.declared.TreeRefusal.{TreeRefusal}
 use Rattle.refusals.specs.declared.TreeRefusal.the-variants.{NodeNames, NodeLine, SinkNode, RouterReservations, RouterSlots}
 use Rattle.refusals.specs.declared.Conflict.{Conflict}
-use Rattle.refusals.specs.declared.Conflict.the-variants.{Orders, Routers, Sensors, SinkDepth, SinkBranches, FrameLength}
+use Rattle.refusals.specs.declared.Conflict.the-variants.{Orders, Routers, Sensors, SinkDepth, SinkBranches, FrameLength, Unacknowledged}
 use Rattle.refusals.specs.Refusals.{conflictPlace, treeNumber, treePlace, numberOf, placeOf}
-use Rattle.settings.specs.Columns.{table, columnAt}
+use Rattle.settings.specs.Columns.{twelve, table, columnAt}
 use Rattle.reasons.specs.declared.Match.the-variants.{At, Nowhere}
 use Rattle.reasons.specs.declared.Reading.the-variants.{Reason, NoReason}
 use Rattle.reasons.specs.Reasons.{named, columnName, ruleOf, treePhrase, phraseOf, valuesAtOdds, treeValues, valuesOf, Part, partOf, partText, taken, filled, reason}
@@ -82,16 +82,17 @@ wanted r = record {
 }
 
 conflict-sorted : (c : Conflict) → found (AtOdds c) ≡ wanted (AtOdds c)
-unfolding ascii table columnAt conflictPlace treeNumber treePlace numberOf placeOf named columnName ruleOf treePhrase phraseOf valuesAtOdds treeValues valuesOf partOf partText taken filled wordByte sorts sortAt conflictSort treeSort sortOf endsGap ended sound stood placed code isByte apart allApart isMark unmarked once prints most
+unfolding ascii twelve table columnAt conflictPlace treeNumber treePlace numberOf placeOf named columnName ruleOf treePhrase phraseOf valuesAtOdds treeValues valuesOf partOf partText taken filled wordByte sorts sortAt conflictSort treeSort sortOf endsGap ended sound stood placed code isByte apart allApart isMark unmarked once prints most
 conflict-sorted (Orders so bo) = refl
 conflict-sorted (Routers nr h) = refl
 conflict-sorted (Sensors ne own) = refl
 conflict-sorted (SinkDepth sink h) = refl
 conflict-sorted (SinkBranches sink nr) = refl
 conflict-sorted (FrameLength head payload) = refl
+conflict-sorted (Unacknowledged loss ack) = refl
 
 tree-sorted : (r : TreeRefusal) → found (InTree r) ≡ wanted (InTree r)
-unfolding ascii table columnAt conflictPlace treeNumber treePlace numberOf placeOf named columnName ruleOf treePhrase phraseOf valuesAtOdds treeValues valuesOf partOf partText taken filled wordByte sorts sortAt conflictSort treeSort sortOf endsGap ended sound stood placed code isByte apart allApart isMark unmarked once prints most
+unfolding ascii twelve table columnAt conflictPlace treeNumber treePlace numberOf placeOf named columnName ruleOf treePhrase phraseOf valuesAtOdds treeValues valuesOf partOf partText taken filled wordByte sorts sortAt conflictSort treeSort sortOf endsGap ended sound stood placed code isByte apart allApart isMark unmarked once prints most
 tree-sorted NodeNames = refl
 tree-sorted (NodeLine line) = refl
 tree-sorted SinkNode = refl
@@ -99,7 +100,7 @@ tree-sorted (RouterReservations router reservations) = refl
 tree-sorted (RouterSlots router used reservable) = refl
 
 pub sorted : (r : Refusal) → found r ≡ wanted r
-unfolding ascii table columnAt conflictPlace treeNumber treePlace numberOf placeOf named columnName ruleOf treePhrase phraseOf valuesAtOdds treeValues valuesOf partOf partText taken filled wordByte sorts sortAt conflictSort treeSort sortOf endsGap ended sound stood placed code isByte apart allApart isMark unmarked once prints most
+unfolding ascii twelve table columnAt conflictPlace treeNumber treePlace numberOf placeOf named columnName ruleOf treePhrase phraseOf valuesAtOdds treeValues valuesOf partOf partText taken filled wordByte sorts sortAt conflictSort treeSort sortOf endsGap ended sound stood placed code isByte apart allApart isMark unmarked once prints most
 sorted Names = refl
 sorted (Unreadable column) = refl
 sorted (TextAfter column) = refl
@@ -115,9 +116,9 @@ sorted (InTree refusal) = tree-sorted refusal
 -- ---- a refusal's line, as code makes it
 
 module _ (r : Refusal) where
-  pub sort-inside : sortOf r < 20
+  pub sort-inside : sortOf r < 21
   unfolding sorts
-  sort-inside = ltb-true (sortOf r) 20 (ap (λ (x : Facts). x .inside) (sorted r))
+  sort-inside = ltb-true (sortOf r) 21 (ap (λ (x : Facts). x .inside) (sorted r))
 
   pub phrase-of-sort : phraseAt (sortOf r) ≡ phraseOf r
   unfolding phraseAt
@@ -137,17 +138,17 @@ in-range (x ∷ xs) zero d e h = refl
 in-range (x ∷ xs) (suc k) d e h = in-range xs k d e (omega arith)
 
 -- the numbers of the sorts, and the places of those whose phrase does not say it
-pub number-at : (k : ℕ) → k < 20 → getD (map numberOf sorts) k 0 ≡ numberOf (sortAt k)
+pub number-at : (k : ℕ) → k < 21 → getD (map numberOf sorts) k 0 ≡ numberOf (sortAt k)
 unfolding treeNumber numberOf sortAt sorts
 number-at k h = in-range (map numberOf sorts) k 0 1 h ∙ List·getD-map numberOf sorts k Names
 
-pub place-at : (k : ℕ) → k < 20 → getD (map placeOf sorts) k 0 ≡ placeOf (sortAt k)
+pub place-at : (k : ℕ) → k < 21 → getD (map placeOf sorts) k 0 ≡ placeOf (sortAt k)
 unfolding treePlace placeOf sortAt
 place-at k h = List·getD-map placeOf sorts k Names
 
 -- ---- the sorts one by one, as code tries them
 
-module _ (line : List ℕ) (k : ℕ) (h : k < 20) where
+module _ (line : List ℕ) (k : ℕ) (h : k < 21) where
   sort-next : drop k sorts ≡ sortAt k ∷ drop (suc k) sorts
   unfolding sorts sortAt
   sort-next = drop-cons sorts k Names h
@@ -164,6 +165,6 @@ module _ (line : List ℕ) (k : ℕ) (h : k < 20) where
   sort-later e = rw (sort-next, e, add-one)
 
 -- none is left
-pub sort-none : (line : List ℕ) (k : ℕ) → 20 ≤ k → readFrom (drop k sorts) line ≡ NoReason
+pub sort-none : (line : List ℕ) (k : ℕ) → 21 ≤ k → readFrom (drop k sorts) line ≡ NoReason
 unfolding readFrom sorts
 sort-none line k h = rw (drop-of-length-le sorts h)

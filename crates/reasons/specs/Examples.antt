@@ -8,7 +8,7 @@ use Rattle.decimal.specs.Ascii.{ascii}
 use Rattle.refusals.specs.declared.Refusal.{Refusal}
 use Rattle.refusals.specs.declared.Refusal.the-variants.{Names, Unreadable, TextAfter, OutOfRange, AtOdds, Reservations, Superframes, SlotsUsed, LentTooShort, InputTooLong, InTree}
 use Rattle.refusals.specs.declared.TreeRefusal.the-variants.{NodeNames, NodeLine, SinkNode, RouterReservations, RouterSlots}
-use Rattle.refusals.specs.declared.Conflict.the-variants.{Orders, Routers, Sensors, SinkDepth, SinkBranches, FrameLength}
+use Rattle.refusals.specs.declared.Conflict.the-variants.{Orders, Routers, Sensors, SinkDepth, SinkBranches, FrameLength, Unacknowledged}
 use Rattle.measure.specs.Measures.{slots}
 use Rattle.reasons.specs.declared.Reading.{Reading}
 use Rattle.reasons.specs.declared.Reading.the-variants.{Reason, NoReason}
@@ -29,13 +29,17 @@ examples =
     example Names "The line of names differs or is missing." 1 0
     ∷ example (Unreadable 3) "The value of H is unreadable or missing." 2 3
     ∷ example (TextAfter 13) "There is text after the last value, where column 13 would be." 2 13
+    ∷ example (Unreadable 13) "The value of LOSS is unreadable or missing." 2 13
+    ∷ example (TextAfter 14) "There is text after the last value, where column 14 would be." 2 14
     ∷ example (OutOfRange 8 0) "The value of BURST is outside its range: it is 0." 3 8
+    ∷ example (OutOfRange 13 8) "The value of LOSS is outside its range: it is 8." 3 13
     ∷ example (AtOdds (Orders 8 4)) "Values are at odds at SO, which may not be above BO: SO is 8 and BO is 4." 4 2
     ∷ example (AtOdds (Routers 0 1)) "Values are at odds at NR, which is 0 exactly where H is 0: NR is 0 and H is 1." 4 4
     ∷ example (AtOdds (Sensors 0 0)) "Values are at odds at NE, since nothing senses: NE is 0 and OWN is 0." 4 5
     ∷ example (AtOdds (SinkDepth 2 1)) "Values are at odds at SINK, which may not be above H: SINK is 2 and H is 1." 4 7
     ∷ example (AtOdds (SinkBranches 1 1)) "Values are at odds at SINK, which is 0 where NR is below 2: SINK is 1 and NR is 1." 4 7
     ∷ example (AtOdds (FrameLength 126 2)) "Values are at odds at DATA, which with HEAD may not be above 127: HEAD is 126 and DATA is 2." 4 11
+    ∷ example (AtOdds (Unacknowledged 3 0)) "Values are at odds at LOSS, which is 0 where ACK is 0: LOSS is 3 and ACK is 0." 4 13
     ∷ example (Reservations 4 5) "A router would have more than 7 reservations: NE is 4 and NR is 5." 5 0
     ∷ example (Superframes 3 2) "There are more routers than superframes that fit a beacon interval: 3 against 2." 6 0
     ∷ example (SlotsUsed 12 (slots 10) (slots 8)) "The slots used at depth 12 are more than can be reserved: 10 used and 8 reservable." 7 12
@@ -48,7 +52,7 @@ examples =
     ∷ example (InTree (RouterReservations 17 8)) "Router 17 would have more than 7 reservations: it would have 8." 5 17
     ∷ example (InTree (RouterSlots 254 (slots 8) (slots 7))) "The slots used at router 254 are more than can be reserved: 8 used and 7 reservable." 7 254
     -- a column without a name, and the largest numbers of 64 bits
-    ∷ example (OutOfRange 13 18446744073709551615) "The value of 13 is outside its range: it is 18446744073709551615." 3 13
+    ∷ example (OutOfRange 14 18446744073709551615) "The value of 14 is outside its range: it is 18446744073709551615." 3 14
     ∷ []
 
 -- the theorem; proofs/ExamplesHold proves it by computing both sides
@@ -68,6 +72,8 @@ others =
     ∷ "the input is over 65,536 bytes."
     ∷ "The value of LF is unreadable or missing."
     ∷ "The value of 3 is unreadable or missing."
+    ∷ "The value of 13 is unreadable or missing."
+    ∷ "There is text after the last value, where column LOSS would be."
     ∷ "The value of BURST is outside its range: it is 00."
     ∷ "The value of BURST is outside its range: it is ."
     ∷ "Values are at odds at BO, which may not be above BO: SO is 8 and BO is 4."

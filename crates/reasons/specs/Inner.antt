@@ -8,7 +8,7 @@ use Rattle.refusals.specs.declared.Refusal.the-variants.{Names, Unreadable, Tex
 use Rattle.refusals.specs.declared.TreeRefusal.{TreeRefusal}
 use Rattle.refusals.specs.declared.TreeRefusal.the-variants.{NodeNames, NodeLine, SinkNode, RouterReservations, RouterSlots}
 use Rattle.refusals.specs.declared.Conflict.{Conflict}
-use Rattle.refusals.specs.declared.Conflict.the-variants.{Orders, Routers, Sensors, SinkDepth, SinkBranches, FrameLength}
+use Rattle.refusals.specs.declared.Conflict.the-variants.{Orders, Routers, Sensors, SinkDepth, SinkBranches, FrameLength, Unacknowledged}
 use Rattle.reasons.specs.declared.phrases.Wording.{Wording}
 use Rattle.reasons.specs.Reasons.{phraseOf, valuesOf, Part, Byte, Name, Place, Value}
 use Rattle.reasons.specs.Reading.{sorts}
@@ -28,13 +28,14 @@ conflictSort (Sensors ne own) = 6
 conflictSort (SinkDepth sink h) = 7
 conflictSort (SinkBranches sink nr) = 8
 conflictSort (FrameLength head payload) = 9
+conflictSort (Unacknowledged loss ack) = 10
 
 unfoldable pub treeSort : TreeRefusal → ℕ
-treeSort NodeNames = 15
-treeSort (NodeLine line) = 16
-treeSort SinkNode = 17
-treeSort (RouterReservations router reservations) = 18
-treeSort (RouterSlots router used reservable) = 19
+treeSort NodeNames = 16
+treeSort (NodeLine line) = 17
+treeSort SinkNode = 18
+treeSort (RouterReservations router reservations) = 19
+treeSort (RouterSlots router used reservable) = 20
 
 unfoldable pub sortOf : Refusal → ℕ
 sortOf Names = 0
@@ -42,11 +43,11 @@ sortOf (Unreadable column) = 1
 sortOf (TextAfter column) = 2
 sortOf (OutOfRange column value) = 3
 sortOf (AtOdds conflict) = conflictSort conflict
-sortOf (Reservations ne nr) = 10
-sortOf (Superframes routers superframes) = 11
-sortOf (SlotsUsed depth used reservable) = 12
-sortOf LentTooShort = 13
-sortOf InputTooLong = 14
+sortOf (Reservations ne nr) = 11
+sortOf (Superframes routers superframes) = 12
+sortOf (SlotsUsed depth used reservable) = 13
+sortOf LentTooShort = 14
+sortOf InputTooLong = 15
 sortOf (InTree refusal) = treeSort refusal
 
 -- how a refusal is worded: its sort, and the values concerned, as two numbers of which some phrases take none or one

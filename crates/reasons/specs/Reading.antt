@@ -10,7 +10,7 @@ use Rattle.lines.specs.Text.{same}
 use Rattle.refusals.specs.declared.Refusal.{Refusal}
 use Rattle.refusals.specs.declared.Refusal.the-variants.{Names, Unreadable, TextAfter, OutOfRange, AtOdds, Reservations, Superframes, SlotsUsed, LentTooShort, InputTooLong, InTree}
 use Rattle.refusals.specs.declared.TreeRefusal.the-variants.{NodeNames, NodeLine, SinkNode, RouterReservations, RouterSlots}
-use Rattle.refusals.specs.declared.Conflict.the-variants.{Orders, Routers, Sensors, SinkDepth, SinkBranches, FrameLength}
+use Rattle.refusals.specs.declared.Conflict.the-variants.{Orders, Routers, Sensors, SinkDepth, SinkBranches, FrameLength, Unacknowledged}
 use Rattle.refusals.specs.Refusals.{numberOf, placeOf}
 use Rattle.measure.specs.Measures.{slots}
 use Rattle.settings.specs.Columns.{Column, table}
@@ -89,6 +89,7 @@ sorts =
     ∷ AtOdds (SinkDepth 0 0)
     ∷ AtOdds (SinkBranches 0 0)
     ∷ AtOdds (FrameLength 0 0)
+    ∷ AtOdds (Unacknowledged 0 0)
     ∷ Reservations 0 0
     ∷ Superframes 0 0
     ∷ SlotsUsed 0 (slots 0) (slots 0)

@@ -13,7 +13,7 @@ use Rattle.refusals.specs.declared.Refusal.the-variants.{Names, Unreadable, Tex
 use Rattle.refusals.specs.declared.TreeRefusal.{TreeRefusal}
 use Rattle.refusals.specs.declared.TreeRefusal.the-variants.{NodeNames, NodeLine, SinkNode, RouterReservations, RouterSlots}
 use Rattle.refusals.specs.declared.Conflict.{Conflict}
-use Rattle.refusals.specs.declared.Conflict.the-variants.{Orders, Routers, Sensors, SinkDepth, SinkBranches, FrameLength}
+use Rattle.refusals.specs.declared.Conflict.the-variants.{Orders, Routers, Sensors, SinkDepth, SinkBranches, FrameLength, Unacknowledged}
 use Rattle.refusals.specs.declared.Verdict.{Verdict}
 use Rattle.refusals.specs.declared.Verdict.the-variants.{Kept, Broken}
 use Rattle.refusals.specs.Refusals.{conflictPlace, placeOf}
@@ -35,6 +35,7 @@ ruleOf (Sensors ne own) = ", since nothing senses: NE is # and OWN is #."
 ruleOf (SinkDepth sink h) = ", which may not be above H: SINK is # and H is #."
 ruleOf (SinkBranches sink nr) = ", which is 0 where NR is below 2: SINK is # and NR is #."
 ruleOf (FrameLength head payload) = ", which with HEAD may not be above 127: HEAD is # and DATA is #."
+ruleOf (Unacknowledged loss ack) = ", which is 0 where ACK is 0: LOSS is # and ACK is #."
 
 -- the phrases of a surveyed tree's refusals: "Later refusals get such lines too, with their places as numbers."
 unfoldable pub treePhrase : TreeRefusal → String
@@ -67,6 +68,7 @@ valuesAtOdds (Sensors ne own) = ne ∷ own ∷ []
 valuesAtOdds (SinkDepth sink h) = sink ∷ h ∷ []
 valuesAtOdds (SinkBranches sink nr) = sink ∷ nr ∷ []
 valuesAtOdds (FrameLength head payload) = head ∷ payload ∷ []
+valuesAtOdds (Unacknowledged loss ack) = loss ∷ ack ∷ []
 
 unfoldable pub treeValues : TreeRefusal → List ℕ
 treeValues NodeNames = []

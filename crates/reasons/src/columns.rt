@@ -1,4 +1,4 @@
-// Columns by their names (document 01, 'Rows of settings').
+// Columns by their names (document 01, 'Rows of settings'; document 02, E5).
 ghost use mathlib.Core.Path.{_≡_};
 ghost use Prim.Native.Nat.{_≤_};
 ghost use lib.ListN.{length};
@@ -19,7 +19,7 @@ pub(crate) fn put_column(out: &mut [u8], at: usize, column: u32) -> usize
     if column < 1 {
         return put_number(out, at, column as u64);
     }
-    if 12 < column {
+    if 13 < column {
         return put_number(out, at, column as u64);
     }
     if column < 7 {
@@ -53,10 +53,10 @@ fn put_first_name(out: &mut [u8], at: usize, column: u32) -> usize
     put_bytes(out, at, b"OWN")
 }
 
-// The names of columns 7 to 12.
+// The names of columns 7 to 13.
 fn put_later_name(out: &mut [u8], at: usize, column: u32) -> usize
     requires { ⌜ 7 ≤ column ⌝ }
-    requires { ⌜ column ≤ 12 ⌝ }
+    requires { ⌜ column ≤ 13 ⌝ }
     ensures { λ r. ⌜ r ≡ length (columnName column) ⌝ }
     ensures { λ _. ⌜ now (out .exit) ≡ sets (now (out .entry)) at (columnName column) ⌝ }
 {
@@ -75,7 +75,10 @@ fn put_later_name(out: &mut [u8], at: usize, column: u32) -> usize
     if column < 12 {
         return put_bytes(out, at, b"DATA");
     }
-    put_bytes(out, at, b"ACK")
+    if column < 13 {
+        return put_bytes(out, at, b"ACK");
+    }
+    put_bytes(out, at, b"LOSS")
 }
 
 // The column that a word is the name of.
@@ -83,7 +86,7 @@ pub(crate) fn column_in(word: &[u8]) -> Match
     ensures { λ r. ⌜ r ≡ columnIn (now (word .entry)) ⌝ }
 {
     let mut k = 0;
-    while k < 12 {
+    while k < 13 {
         if is_column(word, k + 1) {
             return Match::At(k + 1);
         }
@@ -109,7 +112,7 @@ fn without_name(number: Match) -> Match
         return Match::Nowhere;
     };
     if 1 <= column {
-        if column <= 12 {
+        if column <= 13 {
             return Match::Nowhere;
         }
     }

@@ -73,7 +73,7 @@ pub fn read_reason(line: &[u8]) -> Reading
     ensures { λ r. ⌜ r ≡ readReason (now (line .entry)) ⌝ }
 {
     let mut sort = 0;
-    while sort < 20 {
+    while sort < 21 {
         let found = match_sort(line, sort);
         if let Match::At(place) = found {
             return Reading::Reason {

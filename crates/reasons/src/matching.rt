@@ -20,7 +20,7 @@ use decimal::is_digit;
 
 // The place that a line has, where it is the phrase of this sort with its gaps filled.
 pub(crate) fn match_sort(line: &[u8], sort: usize) -> Match
-    requires { ⌜ sort < 20 ⌝ }
+    requires { ⌜ sort < 21 ⌝ }
     ensures { λ r. ⌜ r ≡ matched (map partOf (phraseAt sort)) (At (placeOf (sortAt sort))) (now (line .entry)) ⌝ }
 {
     let mut phrase = [0u8; 128];

@@ -19,11 +19,12 @@ pub struct Wording {
 }
 
 // The sorts' numbers, and their places where the phrase does not say it.
-const NUMBERS: [u32; 20] = [
+const NUMBERS: [u32; 21] = [
     1,
     2,
     2,
     3,
+    4,
     4,
     4,
     4,
@@ -42,11 +43,33 @@ const NUMBERS: [u32; 20] = [
     7,
 ];
 
-const PLACES: [u32; 20] = [0, 0, 0, 0, 2, 4, 5, 7, 7, 11, 0, 0, 0, 0, 0, 0, 0, 0, 0, 0];
+const PLACES: [u32; 21] = [
+    0,
+    0,
+    0,
+    0,
+    2,
+    4,
+    5,
+    7,
+    7,
+    11,
+    13,
+    0,
+    0,
+    0,
+    0,
+    0,
+    0,
+    0,
+    0,
+    0,
+    0,
+];
 
 // Puts the phrase of a sort, and answers its length.
 pub(crate) fn put_phrase(out: &mut [u8], sort: usize) -> usize
-    requires { ⌜ sort < 20 ⌝ }
+    requires { ⌜ sort < 21 ⌝ }
     ensures { λ r. ⌜ r ≡ length (phraseAt sort) ⌝ }
     ensures { λ r. ⌜ r ≤ 128 ⌝ }
     ensures { λ _. ⌜ now (out .exit) ≡ sets (now (out .entry)) 0 (phraseAt sort) ⌝ }
@@ -54,10 +77,10 @@ pub(crate) fn put_phrase(out: &mut [u8], sort: usize) -> usize
     if sort < 4 {
         return put_text_phrase(out, sort);
     }
-    if sort < 10 {
+    if sort < 11 {
         return put_odds_phrase(out, sort);
     }
-    if sort < 15 {
+    if sort < 16 {
         return put_plan_phrase(out, sort);
     }
     put_tree_phrase(out, sort)
@@ -89,7 +112,7 @@ fn put_text_phrase(out: &mut [u8], sort: usize) -> usize
 // Number 4.
 fn put_odds_phrase(out: &mut [u8], sort: usize) -> usize
     requires { ⌜ 4 ≤ sort ⌝ }
-    requires { ⌜ sort < 10 ⌝ }
+    requires { ⌜ sort < 11 ⌝ }
     ensures { λ r. ⌜ r ≡ length (phraseAt sort) ⌝ }
     ensures { λ r. ⌜ r ≤ 128 ⌝ }
     ensures { λ _. ⌜ now (out .exit) ≡ sets (now (out .entry)) 0 (phraseAt sort) ⌝ }
@@ -129,43 +152,50 @@ fn put_odds_phrase(out: &mut [u8], sort: usize) -> usize
             b"Values are at odds at SINK, which is 0 where NR is below 2: SINK is # and NR is #.",
         );
     }
+    if sort < 10 {
+        return put_bytes(
+            out,
+            0,
+            b"Values are at odds at DATA, which with HEAD may not be above 127: HEAD is # and DATA is #.",
+        );
+    }
     put_bytes(
         out,
         0,
-        b"Values are at odds at DATA, which with HEAD may not be above 127: HEAD is # and DATA is #.",
+        b"Values are at odds at LOSS, which is 0 where ACK is 0: LOSS is # and ACK is #.",
     )
 }
 
 // Numbers 5 to 9.
 fn put_plan_phrase(out: &mut [u8], sort: usize) -> usize
-    requires { ⌜ 10 ≤ sort ⌝ }
-    requires { ⌜ sort < 15 ⌝ }
+    requires { ⌜ 11 ≤ sort ⌝ }
+    requires { ⌜ sort < 16 ⌝ }
     ensures { λ r. ⌜ r ≡ length (phraseAt sort) ⌝ }
     ensures { λ r. ⌜ r ≤ 128 ⌝ }
     ensures { λ _. ⌜ now (out .exit) ≡ sets (now (out .entry)) 0 (phraseAt sort) ⌝ }
 {
-    if sort < 11 {
+    if sort < 12 {
         return put_bytes(
             out,
             0,
             b"A router would have more than 7 reservations: NE is # and NR is #.",
         );
     }
-    if sort < 12 {
+    if sort < 13 {
         return put_bytes(
             out,
             0,
             b"There are more routers than superframes that fit a beacon interval: # against #.",
         );
     }
-    if sort < 13 {
+    if sort < 14 {
         return put_bytes(
             out,
             0,
             b"The slots used at depth % are more than can be reserved: # used and # reservable.",
         );
     }
-    if sort < 14 {
+    if sort < 15 {
         return put_bytes(
             out,
             0,
@@ -177,30 +207,30 @@ fn put_plan_phrase(out: &mut [u8], sort: usize) -> usize
 
 // A surveyed tree's: numbers 10, 5 and 7.
 fn put_tree_phrase(out: &mut [u8], sort: usize) -> usize
-    requires { ⌜ 15 ≤ sort ⌝ }
-    requires { ⌜ sort < 20 ⌝ }
+    requires { ⌜ 16 ≤ sort ⌝ }
+    requires { ⌜ sort < 21 ⌝ }
     ensures { λ r. ⌜ r ≡ length (phraseAt sort) ⌝ }
     ensures { λ r. ⌜ r ≤ 128 ⌝ }
     ensures { λ _. ⌜ now (out .exit) ≡ sets (now (out .entry)) 0 (phraseAt sort) ⌝ }
 {
-    if sort < 16 {
+    if sort < 17 {
         return put_bytes(
             out,
             0,
             b"The line of names of the node list differs or is missing.",
         );
     }
-    if sort < 17 {
+    if sort < 18 {
         return put_bytes(
             out,
             0,
             b"Line % of the node list breaks a rule or is missing.",
         );
     }
-    if sort < 18 {
+    if sort < 19 {
         return put_bytes(out, 0, b"The sink is no router of the tree.");
     }
-    if sort < 19 {
+    if sort < 20 {
         return put_bytes(
             out,
             0,
@@ -216,7 +246,7 @@ fn put_tree_phrase(out: &mut [u8], sort: usize) -> usize
 
 // The number of a sort.
 pub(crate) fn sort_number(sort: usize) -> u32
-    requires { ⌜ sort < 20 ⌝ }
+    requires { ⌜ sort < 21 ⌝ }
     ensures { λ r. ⌜ r ≡ numberOf (sortAt sort) ⌝ }
 {
     NUMBERS[sort]
@@ -224,7 +254,7 @@ pub(crate) fn sort_number(sort: usize) -> u32
 
 // The place of a sort, where its phrase does not say it.
 pub(crate) fn sort_place(sort: usize) -> u32
-    requires { ⌜ sort < 20 ⌝ }
+    requires { ⌜ sort < 21 ⌝ }
     ensures { λ r. ⌜ r ≡ placeOf (sortAt sort) ⌝ }
 {
     PLACES[sort]
@@ -240,18 +270,18 @@ pub(crate) fn wording_of(refusal: Refusal) -> Wording
         Refusal::TextAfter { column: _ } => worded(2, 0, 0),
         Refusal::OutOfRange { column: _, value } => worded(3, value, 0),
         Refusal::AtOdds(conflict) => conflict_wording(conflict),
-        Refusal::Reservations { ne, nr } => worded(10, ne, nr),
+        Refusal::Reservations { ne, nr } => worded(11, ne, nr),
         Refusal::Superframes {
             routers,
             superframes,
-        } => worded(11, routers, superframes),
+        } => worded(12, routers, superframes),
         Refusal::SlotsUsed {
             depth: _,
             used,
             reservable,
-        } => worded(12, used.0, reservable.0),
-        Refusal::LentTooShort => worded(13, 0, 0),
-        Refusal::InputTooLong => worded(14, 0, 0),
+        } => worded(13, used.0, reservable.0),
+        Refusal::LentTooShort => worded(14, 0, 0),
+        Refusal::InputTooLong => worded(15, 0, 0),
         Refusal::InTree(refusal) => tree_wording(refusal),
     }
 }
@@ -267,6 +297,7 @@ fn conflict_wording(conflict: Conflict) -> Wording
         Conflict::SinkDepth { sink, h } => worded(7, sink, h),
         Conflict::SinkBranches { sink, nr } => worded(8, sink, nr),
         Conflict::FrameLength { head, payload } => worded(9, head, payload),
+        Conflict::Unacknowledged { loss, ack } => worded(10, loss, ack),
     }
 }
 
@@ -275,18 +306,18 @@ fn tree_wording(refusal: TreeRefusal) -> Wording
     ensures { λ r. ⌜ r ≡ wording (InTree refusal) ⌝ }
 {
     match refusal {
-        TreeRefusal::NodeNames => worded(15, 0, 0),
-        TreeRefusal::NodeLine { line: _ } => worded(16, 0, 0),
-        TreeRefusal::SinkNode => worded(17, 0, 0),
+        TreeRefusal::NodeNames => worded(16, 0, 0),
+        TreeRefusal::NodeLine { line: _ } => worded(17, 0, 0),
+        TreeRefusal::SinkNode => worded(18, 0, 0),
         TreeRefusal::RouterReservations {
             router: _,
             reservations,
-        } => worded(18, reservations, 0),
+        } => worded(19, reservations, 0),
         TreeRefusal::RouterSlots {
             router: _,
             used,
             reservable,
-        } => worded(19, used.0, reservable.0),
+        } => worded(20, used.0, reservable.0),
     }
 }
 

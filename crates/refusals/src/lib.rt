@@ -1,5 +1,5 @@
-// Document 01's table of refusals ('Rows of settings'), 1 to 9, and those of surveyed trees (document 02, E3): every reason for which
-// something is refused, in one place.
+// Document 01's table of refusals ('Rows of settings'), 1 to 9, with the column LOSS (document 02, E5), and those of surveyed trees (E3):
+// every reason for which something is refused, in one place.
 //
 // No public function has a `requires`: each answers every argument, as an equation with a definition of specs/ says.
 ghost use mathlib.Core.Path.{_≡_};
@@ -63,6 +63,8 @@ pub enum Conflict {
     SinkBranches { sink: u64, nr: u64 },
     // HEAD + DATA > 127.
     FrameLength { head: u64, payload: u64 },
+    // LOSS > 0 with ACK 0 (document 02, E5).
+    Unacknowledged { loss: u64, ack: u64 },
 }
 
 // Why a surveyed tree is refused, with the values concerned.
@@ -160,6 +162,7 @@ impl Conflict {
                 head: _,
                 payload: _,
             } => 11,
+            Conflict::Unacknowledged { loss: _, ack: _ } => 13,
         }
     }
 }

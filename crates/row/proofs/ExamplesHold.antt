@@ -5,22 +5,32 @@ use Rattle.decimal.specs.Number.{digits, zeroLed, shaped, readable, spelledAfte
 use Rattle.lines.specs.Text.{same, before, pieces, fields, joined}
 use Rattle.refusals.specs.Refusals.{conflictPlace, numberOf, placeOf}
 use Rattle.refusals.specs.Conditions.{firstBroken}
-use Rattle.settings.specs.Columns.{table}
+use Rattle.settings.specs.Columns.{twelve, table}
 use Rattle.settings.specs.Checks.{valuesOf, ranged, atOdds, checks}
-use Rattle.row.specs.Names.{nameLine, isNameLine}
-use Rattle.row.specs.Rows.{named, written, valuesIn, settingsOf, conditions, rowOf, namedRow}
-use Rattle.row.specs.Examples.{answered, under, asked, behind, Examples}
+use Rattle.row.specs.Names.{nameLine, headingOf, isOther, columnsUnder}
+use Rattle.row.specs.Rows.{named, written, valuesIn, settingsOf, conditions, rowUnder, namedRow}
+use Rattle.row.specs.Examples.{answered, under, asked, askedLossy, behind, behindLoss, Examples}
 
 pub examples-hold : Examples
-unfolding ascii digits zeroLed shaped readable spelledAfter before pieces fields joined table nameLine same isNameLine conflictPlace numberOf placeOf firstBroken valuesOf ranged atOdds checks named written valuesIn settingsOf conditions rowOf namedRow answered under asked behind
+unfolding ascii digits zeroLed shaped readable spelledAfter before pieces fields joined twelve table nameLine same headingOf isOther columnsUnder conflictPlace numberOf placeOf firstBroken valuesOf ranged atOdds checks named written valuesIn settingsOf conditions rowUnder namedRow answered under asked askedLossy behind behindLoss
 examples-hold = record {
   names = refl;
+  lossyNames = refl;
+  twelveNames = refl;
+  thirteenNames = refl;
   emptyInput = refl;
   otherNames = refl;
   spaceAfterNames = refl;
   rightNames = refl;
+  thirteenWithSpace = refl;
+  otherThirteenth = refl;
+  rightThirteen = refl;
+  thirteenUnderTwelve = refl;
+  twelveUnderThirteen = refl;
   first = refl;
   largest = refl;
+  firstLossy = refl;
+  largestLossy = refl;
   leadingZero = refl;
   nothing = refl;
   leadingSpace = refl;
@@ -35,10 +45,20 @@ examples-hold = record {
   feedBehind = refl;
   spaceBehind = refl;
   valueBehind = refl;
+  twelveOfThirteen = refl;
+  twelveAndSpace = refl;
+  lossLeadingZero = refl;
+  letterBehindLoss = refl;
+  nothingBehindLoss = refl;
+  spaceBehindLoss = refl;
+  valueBehindLoss = refl;
   outside = refl;
   twoBeforeThree = refl;
   threeBeforeFour = refl;
   lowestColumn = refl;
+  lossOutside = refl;
+  ackBeforeLoss = refl;
+  lossBeforeFour = refl;
   superframeTooLong = refl;
   noChildren = refl;
   noDepth = refl;
@@ -48,4 +68,6 @@ examples-hold = record {
   frameTooLong = refl;
   frameLongest = refl;
   firstOfFour = refl;
+  unacknowledged = refl;
+  lossLast = refl;
 }

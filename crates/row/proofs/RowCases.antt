@@ -1,7 +1,7 @@
 -- What a row is, by the verdicts on number 2 and on its settings. Assumes nothing.
 use mathlib.Core.Path.{_≡_, refl, ap, sym, _∙_}
 use mathlib.Core.Bool.{Bool, true, false, not, cond}
-use mathlib.Core.List.{List, [], _∷_}
+use mathlib.Core.List.{List, [], _∷_, _++_}
 use Prim.Native.Nat.{ℕ, suc}
 use lib.ListN.{length, length-map}
 use Rattle.decimal.specs.Number.{readable, spelled}
@@ -11,12 +11,12 @@ use Rattle.refusals.specs.declared.Refusal.the-variants.{Names, Unreadable, Tex
 use Rattle.refusals.specs.declared.Verdict.the-variants.{Kept, Broken}
 use Rattle.refusals.specs.Conditions.{firstBroken}
 use Rattle.refusals.proofs.Answering.{verdict, broken-kept, answer-broken, answer-kept, first-part-answers, second-part-answers}
-use Rattle.settings.specs.Columns.{Column, table}
+use Rattle.settings.specs.Columns.{Column}
 use Rattle.settings.specs.Checks.{checks}
-use Rattle.settings.proofs.Ranging.{table-length}
 use Rattle.row.specs.declared.Row.the-variants.{Read, Refused}
-use Rattle.row.specs.Names.{isNameLine}
-use Rattle.row.specs.Rows.{named, written, valuesIn, settingsOf, conditions, rowOf, namedRow}
+use Rattle.row.specs.declared.Heading.{Heading}
+use Rattle.row.specs.Names.{isOther, columnsUnder}
+use Rattle.row.specs.Rows.{named, written, valuesIn, settingsOf, conditions, rowUnder}
 
 -- where number 2 is kept, there are as many values as columns
 pub written-length : (k : ℕ) (cs : List Column) (fs : List (List ℕ)) → verdict (written k cs fs) ≡ Kept → length fs ≡ length cs
@@ -30,31 +30,33 @@ written-length k (c ∷ cs) (f ∷ fs) e = by (readable f) e (written-length (su
   by true g f = ap suc (f g)
   by false g f = broken-kept (Unreadable k) g
 
-module _ (row : List ℕ) where
-  pub values-length : verdict (written 1 table (fields row)) ≡ Kept → length (valuesIn row) ≡ 12
+module _ (heading : Heading) (row : List ℕ) where
+  abbrev cs : List Column
+  cs = columnsUnder heading
+
+  pub values-length : verdict (written 1 (columnsUnder heading) (fields row)) ≡ Kept → length (valuesIn row) ≡ length (columnsUnder heading)
   unfolding valuesIn
-  values-length e = length-map (fields row) spelled ∙ written-length 1 table (fields row) e ∙ table-length
+  values-length e = length-map (fields row) spelled ∙ written-length 1 cs (fields row) e
 
-  pub row-unwritten : (x : Refusal) → verdict (written 1 table (fields row)) ≡ Broken x → Refused x ≡ rowOf row
-  unfolding rowOf conditions
-  row-unwritten x e = first-part-answers Refused _ (written 1 table (fields row)) _ x e
+  -- under other names
+  pub row-unnamed : isOther heading ≡ true → Refused Names ≡ rowUnder heading row
+  unfolding rowUnder conditions named firstBroken
+  row-unnamed e = rw e
 
-  module _ (w : verdict (written 1 table (fields row)) ≡ Kept) where
-    by-checks : firstBroken Refused (Read (settingsOf (valuesIn row))) (checks (settingsOf (valuesIn row))) ≡ rowOf row
-    unfolding rowOf conditions
-    by-checks = second-part-answers Refused _ (written 1 table (fields row)) _ w
+  module _ (n : isOther heading ≡ false) where
+    by-names : firstBroken Refused (Read (settingsOf (valuesIn row))) (written 1 cs (fields row) ++ checks (settingsOf (valuesIn row))) ≡ rowUnder heading row
+    unfolding rowUnder conditions named firstBroken
+    by-names = rw n
 
-    pub row-unchecked : (x : Refusal) → verdict (checks (settingsOf (valuesIn row))) ≡ Broken x → Refused x ≡ rowOf row
-    row-unchecked x e = sym (answer-broken Refused _ (checks (settingsOf (valuesIn row))) x e) ∙ by-checks
+    pub row-unwritten : (x : Refusal) → verdict (written 1 (columnsUnder heading) (fields row)) ≡ Broken x → Refused x ≡ rowUnder heading row
+    row-unwritten x e = first-part-answers Refused _ (written 1 cs (fields row)) _ x e ∙ by-names
 
-    pub row-read : verdict (checks (settingsOf (valuesIn row))) ≡ Kept → Read (settingsOf (valuesIn row)) ≡ rowOf row
-    row-read e = sym (answer-kept Refused _ (checks (settingsOf (valuesIn row))) e) ∙ by-checks
+    module _ (w : verdict (written 1 (columnsUnder heading) (fields row)) ≡ Kept) where
+      by-checks : firstBroken Refused (Read (settingsOf (valuesIn row))) (checks (settingsOf (valuesIn row))) ≡ rowUnder heading row
+      by-checks = second-part-answers Refused _ (written 1 cs (fields row)) _ w ∙ by-names
 
--- a row under the name line, and under another
-pub under-names : (line row : List ℕ) → isNameLine line ≡ true → rowOf row ≡ namedRow line row
-unfolding namedRow rowOf named firstBroken
-under-names line row e = rw e
+      pub row-unchecked : (x : Refusal) → verdict (checks (settingsOf (valuesIn row))) ≡ Broken x → Refused x ≡ rowUnder heading row
+      row-unchecked x e = sym (answer-broken Refused _ (checks (settingsOf (valuesIn row))) x e) ∙ by-checks
 
-pub under-others : (line row : List ℕ) → isNameLine line ≡ false → Refused Names ≡ namedRow line row
-unfolding namedRow named firstBroken
-under-others line row e = rw e
+      pub row-read : verdict (checks (settingsOf (valuesIn row))) ≡ Kept → Read (settingsOf (valuesIn row)) ≡ rowUnder heading row
+      row-read e = sym (answer-kept Refused _ (checks (settingsOf (valuesIn row))) e) ∙ by-checks

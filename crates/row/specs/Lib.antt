@@ -1,5 +1,5 @@
 -- What a reader must believe of rows of settings, in reading order. Assumes nothing.
--- the line of names
+-- the lines of names
 pub mod Names
 -- a row: values, conditions 1 and 2 before those of settings, the answer
 pub mod Rows

@@ -1,5 +1,5 @@
--- A row of settings: its values, and the conditions of numbers 1 to 4 in their order (document 01, 'Rows of settings'). Assumes
--- nothing: these are definitions.
+-- A row of settings: its values, and the conditions of numbers 1 to 4 in their order (document 01, 'Rows of settings'; document 02, E5).
+-- Assumes nothing: these are definitions.
 use Prim.Native.Nat.{ℕ, suc}
 use mathlib.Core.Bool.{true, not}
 use mathlib.Core.List.{List, [], _∷_, _++_, map}
@@ -10,18 +10,19 @@ use Rattle.refusals.specs.declared.Refusal.{Refusal}
 use Rattle.refusals.specs.declared.Refusal.the-variants.{Names, Unreadable, TextAfter}
 use Rattle.refusals.specs.Conditions.{Condition, condition, firstBroken}
 use Rattle.settings.specs.declared.Settings.{Settings}
-use Rattle.settings.specs.Columns.{Column, table}
+use Rattle.settings.specs.Columns.{Column}
 use Rattle.settings.specs.Checks.{checks}
 use Rattle.row.specs.declared.Row.{Row}
 use Rattle.row.specs.declared.Row.the-variants.{Read, Refused}
-use Rattle.row.specs.Names.{isNameLine}
+use Rattle.row.specs.declared.Heading.{Heading}
+use Rattle.row.specs.Names.{headingOf, isOther, columnsUnder}
 
 -- number 1: "name line differs or is missing"
-unfoldable pub named : List ℕ → List (Condition Refusal)
-named line = condition (not (isNameLine line)) Names ∷ []
+unfoldable pub named : Heading → List (Condition Refusal)
+named heading = condition (isOther heading) Names ∷ []
 
 -- number 2, for these columns, the first of which has number k, and what stands in them: "value unreadable or missing; text after
--- the last"
+-- the last", at the column where that text stands: 13 under 12 names; E5: "text after the 13th value has place 14"
 unfoldable pub written : ℕ → List Column → List (List ℕ) → List (Condition Refusal)
 written k [] [] = []
 written k [] (f ∷ fs) = condition true (TextAfter k) ∷ []
@@ -32,7 +33,7 @@ written k (c ∷ cs) (f ∷ fs) = condition (not (readable f)) (Unreadable k) �
 unfoldable pub valuesIn : List ℕ → List ℕ
 valuesIn row = map spelled (fields row)
 
--- the values by their columns
+-- the values by their columns; LOSS is 0 where there is no 13th
 unfoldable pub settingsOf : List ℕ → Settings
 settingsOf vs = record {
   bo = getD vs 0 0;
@@ -47,16 +48,17 @@ settingsOf vs = record {
   head = getD vs 9 0;
   payload = getD vs 10 0;
   ack = getD vs 11 0;
+  loss = getD vs 12 0;
 }
 
--- numbers 2 to 4, in their order
-unfoldable pub conditions : List ℕ → List (Condition Refusal)
-conditions row = written 1 table (fields row) ++ checks (settingsOf (valuesIn row))
+-- numbers 1 to 4 of a row under a line of names, without its LF, in their order
+unfoldable pub conditions : Heading → List ℕ → List (Condition Refusal)
+conditions heading row = named heading ++ (written 1 (columnsUnder heading) (fields row) ++ checks (settingsOf (valuesIn row)))
 
--- a row, without its LF: its settings, or the first refusal of numbers 2 to 4
-unfoldable pub rowOf : List ℕ → Row
-rowOf row = firstBroken Refused (Read (settingsOf (valuesIn row))) (conditions row)
+-- its settings, or the first refusal
+unfoldable pub rowUnder : Heading → List ℕ → Row
+rowUnder heading row = firstBroken Refused (Read (settingsOf (valuesIn row))) (conditions heading row)
 
--- a row under a name line, both without their LF: its settings, or the first refusal of numbers 1 to 4
+-- both as bytes, without their LF
 unfoldable pub namedRow : List ℕ → List ℕ → Row
-namedRow line row = firstBroken Refused (Read (settingsOf (valuesIn row))) (named line ++ conditions row)
+namedRow line row = rowUnder (headingOf line) row

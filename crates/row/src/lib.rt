@@ -1,11 +1,11 @@
-// Rows of settings (document 01, 'Rows of settings'): from bytes to checked settings, or to the first refusal of numbers 1 to 4 with
-// its place.
+// Rows of settings (document 01, 'Rows of settings'; document 02, E5): from bytes to checked settings, or to the first refusal of numbers
+// 1 to 4 with its place.
 //
 // No public function has a `requires`: each answers every argument, as an equation with a definition of specs/ says. Nothing is
 // written anywhere.
 ghost use mathlib.Core.Path.{_≡_};
-ghost use Rattle.row.specs.Names.{isNameLine};
-ghost use Rattle.row.specs.Rows.{settingsOf, rowOf, namedRow};
+ghost use Rattle.row.specs.Names.{headingOf, isOther};
+ghost use Rattle.row.specs.Rows.{settingsOf, rowUnder, namedRow};
 use crate::values::read_values;
 use refusals::Refusal;
 use refusals::Verdict;
@@ -13,24 +13,57 @@ use settings::Settings;
 
 mod values; // the values of a row: number 2
 
+// Which line of names a line is.
+pub enum Heading {
+    // BO SO H NR NE OWN SINK BURST RATE HEAD DATA ACK: LOSS is 0.
+    Twelve,
+    // The same with LOSS behind.
+    Thirteen,
+    // Neither.
+    Other,
+}
+
 // What a row's bytes are: settings that keep every condition, or the first refusal.
 pub enum Row {
     Read(Settings),
     Refused(Refusal),
 }
 
-// Whether a line, without its LF, is the line of names.
-pub fn names_match(names: &[u8]) -> bool
-    ensures { λ r. ⌜ r ≡ isNameLine (now (names .entry)) ⌝ }
+// Which line of names a line, without its LF, is.
+pub fn heading_of(names: &[u8]) -> Heading
+    ensures { λ r. ⌜ r ≡ headingOf (now (names .entry)) ⌝ }
 {
-    check::same(names, b"BO SO H NR NE OWN SINK BURST RATE HEAD DATA ACK")
+    if check::same(names, b"BO SO H NR NE OWN SINK BURST RATE HEAD DATA ACK") {
+        return Heading::Twelve;
+    }
+    if check::same(
+        names,
+        b"BO SO H NR NE OWN SINK BURST RATE HEAD DATA ACK LOSS",
+    ) {
+        return Heading::Thirteen;
+    }
+    Heading::Other
 }
 
-// A row from its bytes, without its LF: refusals 2 to 4. An LF in it is a byte like any other.
-pub fn read_row(row: &[u8]) -> Row
-    ensures { λ r. ⌜ r ≡ rowOf (now (row .entry)) ⌝ }
+// The line was no line of names.
+pub fn is_other(heading: Heading) -> bool
+    ensures { λ r. ⌜ r ≡ isOther heading ⌝ }
 {
-    let read = read_values(row);
+    match heading {
+        Heading::Twelve => false,
+        Heading::Thirteen => false,
+        Heading::Other => true,
+    }
+}
+
+// A row from its bytes, without its LF, under a line of names: refusals 1 to 4. An LF in it is a byte like any other.
+pub fn read_row(heading: Heading, row: &[u8]) -> Row
+    ensures { λ r. ⌜ r ≡ rowUnder heading (now (row .entry)) ⌝ }
+{
+    if is_other(heading) {
+        return Row::Refused(Refusal::Names);
+    }
+    let read = read_values(heading, row);
     let verdict = read.verdict;
     if let Verdict::Broken(refusal) = verdict {
         return Row::Refused(refusal);
@@ -44,18 +77,15 @@ pub fn read_row(row: &[u8]) -> Row
     Row::Read(settings)
 }
 
-// A row under a line of names, both without their LF: refusals 1 to 4.
+// A row and its line of names, both as bytes without their LF: refusals 1 to 4.
 pub fn read_named_row(names: &[u8], row: &[u8]) -> Row
     ensures { λ r. ⌜ r ≡ namedRow (now (names .entry)) (now (row .entry)) ⌝ }
 {
-    if names_match(names) {
-        return read_row(row);
-    }
-    Row::Refused(Refusal::Names)
+    read_row(heading_of(names), row)
 }
 
 // The values by their columns.
-fn settings_of(v: [u64; 12]) -> Settings
+fn settings_of(v: [u64; 13]) -> Settings
     ensures { λ r. ⌜ r ≡ settingsOf v ⌝ }
 {
     Settings {
@@ -71,5 +101,6 @@ fn settings_of(v: [u64; 12]) -> Settings
         head: v[9],
         payload: v[10],
         ack: v[11],
+        loss: v[12],
     }
 }

@@ -1,34 +1,37 @@
-// The values of a row: number 2 of document 01's table.
+// The values of a row: number 2 of document 01's table, and of document 02's E5.
 ghost use mathlib.Core.Path.{_≡_};
-ghost use Prim.Native.Nat.{_+_, _<_};
+ghost use Prim.Native.Nat.{_+_, _≤_, _<_};
+ghost use lib.ListN.{length};
 ghost use Rattle.lines.specs.Text.{fields};
 ghost use Rattle.refusals.specs.declared.Verdict.the-variants.{Kept, Broken};
 ghost use Rattle.refusals.specs.declared.Refusal.the-variants.{Unreadable, TextAfter};
 ghost use Rattle.refusals.specs.Conditions.{firstBroken};
-ghost use Rattle.settings.specs.Columns.{table};
-ghost use Rattle.row.specs.Rows.{written, valuesIn};
+ghost use Rattle.row.specs.Names.{columnsUnder};
+ghost use Rattle.row.specs.Rows.{written, valuesIn, settingsOf};
+use crate::Heading;
 use decimal::Number;
 use refusals::Refusal;
 use refusals::Verdict;
 
 const SPACE: u8 = 32;
 
-// The twelve values of a row, and whether each can be read and nothing follows them.
+// The values of a row, LOSS 0 where the names have none, and whether each can be read and nothing follows them.
 pub struct Values {
-    pub numbers: [u64; 12],
+    pub numbers: [u64; 13],
     pub verdict: Verdict,
 }
 
-// The values of a row. A value is the run of bytes between single spaces.
-pub(crate) fn read_values(row: &[u8]) -> Values
-    ensures { λ r. ⌜ r .verdict ≡ firstBroken Broken Kept (written 1 table (fields (now (row .entry)))) ⌝ }
-    ensures { λ r. ⌜ (r .verdict ≡ Kept → r .numbers ≡ valuesIn (now (row .entry))) ⌝ }
+// The values of a row under a line of names. A value is the run of bytes between single spaces.
+pub(crate) fn read_values(heading: Heading, row: &[u8]) -> Values
+    ensures { λ r. ⌜ r .verdict ≡ firstBroken Broken Kept (written 1 (columnsUnder heading) (fields (now (row .entry)))) ⌝ }
+    ensures { λ r. ⌜ (r .verdict ≡ Kept → settingsOf (r .numbers) ≡ settingsOf (valuesIn (now (row .entry)))) ⌝ }
 {
-    let mut numbers = [0u64; 12];
+    let columns = column_count(heading);
+    let mut numbers = [0u64; 13];
     // Where the next value starts. A value that ends with the row leaves it one past the row's end: there is no next one.
     let mut at = 0;
     let mut k = 0;
-    while k < 12 {
+    while k < columns {
         if row.len() < at {
             return unreadable(numbers, k);
         }
@@ -42,7 +45,7 @@ pub(crate) fn read_values(row: &[u8]) -> Values
         k += 1;
     }
     if at <= row.len() {
-        return text_after(numbers);
+        return text_after(numbers, columns);
     }
     Values {
         numbers,
@@ -50,9 +53,21 @@ pub(crate) fn read_values(row: &[u8]) -> Values
     }
 }
 
+// How many columns a line of names names.
+fn column_count(heading: Heading) -> usize
+    ensures { λ r. ⌜ r ≡ length (columnsUnder heading) ⌝ }
+    ensures { λ r. ⌜ r ≤ 13 ⌝ }
+{
+    match heading {
+        Heading::Twelve => 12,
+        Heading::Thirteen => 13,
+        Heading::Other => 0,
+    }
+}
+
 // The answer where the value behind the first k cannot be read.
-fn unreadable(numbers: [u64; 12], k: usize) -> Values
-    requires { ⌜ k < 12 ⌝ }
+fn unreadable(numbers: [u64; 13], k: usize) -> Values
+    requires { ⌜ k ≤ 13 ⌝ }
     ensures { λ r. ⌜ r .verdict ≡ Broken (Unreadable (k + 1)) ⌝ }
 {
     Values {
@@ -63,12 +78,15 @@ fn unreadable(numbers: [u64; 12], k: usize) -> Values
     }
 }
 
-// The answer where text follows the last value.
-fn text_after(numbers: [u64; 12]) -> Values
-    ensures { λ r. ⌜ r .verdict ≡ Broken (TextAfter 13) ⌝ }
+// The answer where text follows the last value of that many columns.
+fn text_after(numbers: [u64; 13], columns: usize) -> Values
+    requires { ⌜ columns ≤ 13 ⌝ }
+    ensures { λ r. ⌜ r .verdict ≡ Broken (TextAfter (columns + 1)) ⌝ }
 {
     Values {
         numbers,
-        verdict: Verdict::Broken(Refusal::TextAfter { column: 13 }),
+        verdict: Verdict::Broken(Refusal::TextAfter {
+            column: (columns + 1) as u32,
+        }),
     }
 }

@@ -1,4 +1,4 @@
-// Runs the compiled functions of row on texts at the edges of 'Rows of settings' and writes what they answer. The file `stdout`
+// Runs the compiled functions of row on texts at the edges of 'Rows of settings', with LOSS and without, and writes what they answer. The file `stdout`
 // beside src/ has what document 01 asks, worked out by another implementation; the check compares the two.
 use libc::STDIN_FILENO;
 use libc::STDOUT_FILENO;
@@ -7,14 +7,16 @@ use lines::Line;
 use lines::next_line;
 use lines::part;
 use refusals::Refusal;
+use row::Heading;
 use row::Row;
-use row::names_match;
+use row::heading_of;
 use row::read_named_row;
 use row::read_row;
 use settings::Settings;
 
 fn main() {
     texts();
+    lossy_texts();
     named_rows();
     parts();
     // The text of `stdin`, with a row for each end of each range and for each way to break a row.
@@ -40,6 +42,48 @@ fn texts() {
     end();
 }
 
+// Rows under 13 names (document 02, E5).
+fn lossy_texts() {
+    through(b"BO SO H NR NE OWN SINK BURST RATE HEAD DATA ACK LOSS");
+    through(b"BO SO H NR NE OWN SINK BURST RATE HEAD DATA ACK LOSS \n8 4 1 2 1 0 0 1 1 19 7 0 0\n");
+    through(b"BO SO H NR NE OWN SINK BURST RATE HEAD DATA ACK  LOSS\n8 4 1 2 1 0 0 1 1 19 7 0 0\n");
+    through(b"BO SO H NR NE OWN SINK BURST RATE HEAD DATA LOSS ACK\n8 4 1 2 1 0 0 1 1 19 7 0 0\n");
+    through(
+        b"BO SO H NR NE OWN SINK BURST RATE HEAD DATA ACK LOSS LOSS\n8 4 1 2 1 0 0 1 1 19 7 0 0 0\n",
+    );
+    through(
+        b"BO SO H NR NE OWN SINK BURST RATE HEAD DATA ACK LOSS\n8 4 1 2 1 0 0 1 1 19 7 0 0\n8 4 1 2 1 0 0 1 1 19 7 1 0\n",
+    );
+    through(
+        b"BO SO H NR NE OWN SINK BURST RATE HEAD DATA ACK LOSS\n8 4 1 2 1 0 0 1 1 19 7 1 1\n8 4 1 2 1 0 0 1 1 19 7 1 7\n",
+    );
+    through(
+        b"BO SO H NR NE OWN SINK BURST RATE HEAD DATA ACK LOSS\n8 4 1 2 1 0 0 1 1 19 7 1 8\n8 4 1 2 1 0 0 1 1 19 7 2 8\n",
+    );
+    through(
+        b"BO SO H NR NE OWN SINK BURST RATE HEAD DATA ACK LOSS\n8 4 1 2 1 0 0 1 1 19 7 1 9999\n8 4 1 2 1 0 0 1 1 19 7 1 10000\n",
+    );
+    through(
+        b"BO SO H NR NE OWN SINK BURST RATE HEAD DATA ACK LOSS\n8 4 1 2 1 0 0 1 1 19 7 0 1\n8 4 1 2 1 0 0 1 1 126 2 0 1\n",
+    );
+    through(
+        b"BO SO H NR NE OWN SINK BURST RATE HEAD DATA ACK LOSS\n8 4 1 2 1 0 0 1 1 19 7 0\n8 4 1 2 1 0 0 1 1 19 7 0 \n",
+    );
+    through(
+        b"BO SO H NR NE OWN SINK BURST RATE HEAD DATA ACK LOSS\n8 4 1 2 1 0 0 1 1 19 7 0 x\n8 4 1 2 1 0 0 1 1 19 7 0 01\n",
+    );
+    through(
+        b"BO SO H NR NE OWN SINK BURST RATE HEAD DATA ACK LOSS\n8 4 1 2 1 0 0 1 1 19 7 0 0 \n8 4 1 2 1 0 0 1 1 19 7 0 0 0\n",
+    );
+    through(
+        b"BO SO H NR NE OWN SINK BURST RATE HEAD DATA ACK LOSS\n4 8 1 2 1 0 0 1 1 19 7 0 1\n4 8 1 2 1 0 0 1 1 19 7 0 8\n",
+    );
+    through(
+        b"BO SO H NR NE OWN SINK BURST RATE HEAD DATA ACK\n8 4 1 2 1 0 0 1 1 19 7 1 1\n8 4 1 2 1 0 0 1 1 19 7 1\n",
+    );
+    end();
+}
+
 // A row under a name line: the names come first.
 fn named_rows() {
     answer(read_named_row(b"", b""));
@@ -57,6 +101,11 @@ fn named_rows() {
         b"8 4 1 2 1 0 0 1 1 19 7 0\n",
     ));
     answer(read_named_row(b"BO SO H NR NE OWN SINK BURST RATE HEAD DATA ACK", b""));
+    answer(read_named_row(
+        b"BO SO H NR NE OWN SINK BURST RATE HEAD DATA ACK LOSS",
+        b"8 4 1 2 1 0 0 1 1 19 7 1 3",
+    ));
+    answer(read_named_row(b"BO SO H NR NE OWN SINK BURST RATE HEAD DATA ACK LOSS", b""));
 }
 
 // Parts that a text has and has not.
@@ -78,32 +127,33 @@ fn through(text: &[u8]) {
         refused(Refusal::Names);
         return;
     };
-    if names_match(part(text, start, end)) {
-        rows(text, next);
-    } else {
-        refused(Refusal::Names);
+    let heading = heading_of(part(text, start, end));
+    match heading {
+        Heading::Twelve => rows(heading, text, next),
+        Heading::Thirteen => rows(heading, text, next),
+        Heading::Other => refused(Refusal::Names),
     }
 }
 
 // Where each row of a text starts and ends, and what it is.
-fn rows(text: &[u8], first: Cursor) {
+fn rows(heading: Heading, text: &[u8], first: Cursor) {
     let mut cursor = first;
     loop {
         let line = next_line(text, cursor);
         let Line::Found { start, end, next } = line else {
             return;
         };
-        row_line(text, start, end);
+        row_line(heading, text, start, end);
         cursor = next;
     }
 }
 
-fn row_line(text: &[u8], start: usize, end: usize) {
+fn row_line(heading: Heading, text: &[u8], start: usize, end: usize) {
     word(b"row");
     number(start as u64);
     number(end as u64);
     word(b" ");
-    answer(read_row(part(text, start, end)));
+    answer(read_row(heading, part(text, start, end)));
 }
 
 fn answer(row: Row) {
@@ -134,6 +184,7 @@ fn read(s: Settings) {
     number(s.head);
     number(s.payload);
     number(s.ack);
+    number(s.loss);
     end();
 }
 

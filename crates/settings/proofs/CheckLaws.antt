@@ -8,7 +8,7 @@ use lib.Dec.{leb, ltb, eqb}
 use borrow.Author.Tests.{leb-true, le-leb, ltb-false, lt-ltb, le-ltb, eqb-false, eq-eqb, ne-eqb, not-false}
 use Rattle.refusals.specs.Conditions.{Unbroken}
 use Rattle.settings.specs.declared.Settings.{Settings}
-use Rattle.settings.specs.Columns.{table}
+use Rattle.settings.specs.Columns.{twelve, table}
 use Rattle.settings.specs.Checks.{valuesOf, ranged, atOdds}
 use Rattle.settings.specs.Laws.{Checked}
 
@@ -74,7 +74,7 @@ not-some-below-two a b f = by (decLe 1 a) where
 -- no value is at odds with another
 module _ (s : Settings) where
   agreed : Unbroken (atOdds s)
-      → (s .so ≤ s .bo) × (0 < s .h → 0 < s .nr) × (0 < s .nr → 0 < s .h) × (0 < s .ne + s .own) × (s .sink ≤ s .h) × (0 < s .sink → 2 ≤ s .nr) × (s .head + s .payload ≤ 127)
+      → (s .so ≤ s .bo) × (0 < s .h → 0 < s .nr) × (0 < s .nr → 0 < s .h) × (0 < s .ne + s .own) × (s .sink ≤ s .h) × (0 < s .sink → 2 ≤ s .nr) × (s .head + s .payload ≤ 127) × (0 < s .loss → 0 < s .ack)
   unfolding atOdds
   agreed o = (
     ltb-false (s .bo) (s .so) (o .0),
@@ -84,6 +84,7 @@ module _ (s : Settings) where
     ltb-false (s .h) (s .sink) (o .1 .1 .1 .1 .0),
     two-for-some (s .sink) (s .nr) (o .1 .1 .1 .1 .1 .0),
     ltb-false 127 (s .head + s .payload) (o .1 .1 .1 .1 .1 .1 .0),
+    some-none (s .loss) (s .ack) (o .1 .1 .1 .1 .1 .1 .1 .0),
   )
 
   pub agrees : Checked s → Unbroken (atOdds s)
@@ -100,7 +101,10 @@ module _ (s : Settings) where
             le-ltb (s .h) (s .sink) (k .sinkDepth),
             (
               not-some-below-two (s .sink) (s .nr) (k .sinkBranches),
-              (le-ltb 127 (s .head + s .payload) (k .frame), tt),
+              (
+                le-ltb 127 (s .head + s .payload) (k .frame),
+                (not-some-none (s .loss) (s .ack) (k .acknowledged), tt),
+              ),
             ),
           ),
         ),
@@ -110,7 +114,7 @@ module _ (s : Settings) where
 
   -- settings of which no condition is broken are checked, and the other way round
   pub unbroken-checked : Unbroken (ranged 1 table (valuesOf s)) → Unbroken (atOdds s) → Checked s
-  unfolding table ranged valuesOf
+  unfolding twelve table ranged valuesOf
   unbroken-checked r o =
       let g = agreed o in
       record {
@@ -126,6 +130,7 @@ module _ (s : Settings) where
         head = in-range 5 126 (s .head) (r .1 .1 .1 .1 .1 .1 .1 .1 .1 .0);
         payload = in-range 1 122 (s .payload) (r .1 .1 .1 .1 .1 .1 .1 .1 .1 .1 .0);
         ack = in-range 0 1 (s .ack) (r .1 .1 .1 .1 .1 .1 .1 .1 .1 .1 .1 .0) .1;
+        loss = in-range 0 7 (s .loss) (r .1 .1 .1 .1 .1 .1 .1 .1 .1 .1 .1 .1 .0) .1;
         orders = g .0;
         children = g .1;
         depth = g .2;
@@ -133,10 +138,11 @@ module _ (s : Settings) where
         sinkDepth = g .4;
         sinkBranches = g .5;
         frame = g .6;
+        acknowledged = g .7;
       }
 
   pub checked-ranged : Checked s → Unbroken (ranged 1 table (valuesOf s))
-  unfolding table ranged valuesOf
+  unfolding twelve table ranged valuesOf
   checked-ranged k = (
     range-in 0 14 (s .bo) (omega arith) (k .bo),
     (
@@ -161,7 +167,7 @@ module _ (s : Settings) where
                         range-in 1 122 (s .payload) (k .payload .0) (k .payload .1),
                         (
                           range-in 0 1 (s .ack) (omega arith) (k .ack),
-                          tt,
+                          (range-in 0 7 (s .loss) (omega arith) (k .loss), tt),
                         ),
                       ),
                     ),

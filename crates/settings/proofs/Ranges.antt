@@ -3,13 +3,14 @@ use mathlib.Core.Path.{_≡_, refl}
 use mathlib.Core.Bool.{false}
 use Prim.Native.Nat.{ℕ, zero, suc, _≤_, _<_}
 use native.Mathlib.Omega.{arith}
+use native.Mathlib.Decide.{decLe}
 use lib.Dec.{leb}
 use borrow.Author.Tests.{le-leb, lt-leb}
-use Rattle.settings.specs.Columns.{table, columnAt, within}
+use Rattle.settings.specs.Columns.{twelve, table, columnAt, within}
 
 -- the lowest value of the first seven columns
 pub lowest-first : (k : ℕ) → k < 7 → 0 ≡ columnAt k .lowest
-unfolding table columnAt
+unfolding twelve table columnAt
 lowest-first zero h = refl
 lowest-first (suc zero) h = refl
 lowest-first (suc (suc zero)) h = refl
@@ -18,6 +19,14 @@ lowest-first (suc (suc (suc (suc zero)))) h = refl
 lowest-first (suc (suc (suc (suc (suc zero))))) h = refl
 lowest-first (suc (suc (suc (suc (suc (suc zero)))))) h = refl
 lowest-first (suc (suc (suc (suc (suc (suc (suc k))))))) h = absurd (omega arith)
+
+-- and of the last two
+pub lowest-last : (k : ℕ) → 11 ≤ k → k < 13 → 0 ≡ columnAt k .lowest
+unfolding twelve table columnAt
+lowest-last k low high = elim (decLe k 11) [
+  | yes l ↦ let z : k ≡ 11 = omega arith in rw z refl
+  | no f ↦ let z : k ≡ 12 = omega arith in rw z refl
+]
 
 -- a value below the lowest is outside, one that is not is inside where it is at most the highest
 pub below-range : (k v l : ℕ) → l ≡ columnAt k .lowest → v < l → false ≡ within (columnAt k) v

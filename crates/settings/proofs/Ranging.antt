@@ -10,20 +10,20 @@ use Rattle.refusals.specs.declared.Refusal.the-variants.{OutOfRange}
 use Rattle.refusals.specs.declared.Verdict.the-variants.{Kept, Broken}
 use Rattle.refusals.specs.Conditions.{condition, firstBroken}
 use Rattle.refusals.proofs.Answering.{verdict}
-use Rattle.settings.specs.Columns.{column, table, columnAt, within}
+use Rattle.settings.specs.Columns.{column, twelve, table, columnAt, within}
 use Rattle.settings.specs.Checks.{ranged}
 
-pub table-length : length table ≡ 12
-unfolding table
+pub table-length : length table ≡ 13
+unfolding twelve table
 table-length = refl
 
 -- the columns behind the first k
-pub table-step : (k : ℕ) → k < 12 → drop k table ≡ columnAt k ∷ drop (suc k) table
+pub table-step : (k : ℕ) → k < 13 → drop k table ≡ columnAt k ∷ drop (suc k) table
 unfolding columnAt
 table-step k h = drop-cons table k (column "" 0 0) (rw table-length h)
 
 -- a value in its column's range, and one outside
-module _ (k : ℕ) (h : k < 12) (vs : List ℕ) (l : length vs ≡ 12) where
+module _ (k : ℕ) (h : k < 13) (vs : List ℕ) (l : length vs ≡ 13) where
   ranged-next : ranged (suc k) (drop k table) (drop k vs)
       ≡ condition (not (within (columnAt k) (getD vs k 0))) (OutOfRange (suc k) (getD vs k 0)) ∷ ranged (suc (suc k)) (drop (suc k) table) (drop (suc k) vs)
   unfolding ranged
@@ -39,6 +39,6 @@ module _ (k : ℕ) (h : k < 12) (vs : List ℕ) (l : length vs ≡ 12) where
   unfolding firstBroken
   ranged-in e = rw (ranged-next, e)
 
-pub ranged-all : (vs : List ℕ) → verdict (ranged 13 (drop 12 table) (drop 12 vs)) ≡ Kept
-unfolding ranged firstBroken table
+pub ranged-all : (vs : List ℕ) → verdict (ranged 14 (drop 13 table) (drop 13 vs)) ≡ Kept
+unfolding ranged firstBroken twelve table
 ranged-all vs = refl

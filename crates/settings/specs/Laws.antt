@@ -21,6 +21,7 @@ pub record Checked (s : Settings) : Type 0 where
   pub head : (5 ≤ s .head) × (s .head ≤ 126)
   pub payload : (1 ≤ s .payload) × (s .payload ≤ 122)
   pub ack : s .ack ≤ 1
+  pub loss : s .loss ≤ 7
   -- a superframe is no longer than the beacon interval
   pub orders : s .so ≤ s .bo
   -- routers have child routers where there is a depth below the root, and only there
@@ -33,6 +34,8 @@ pub record Checked (s : Settings) : Type 0 where
   pub sinkBranches : 0 < s .sink → 2 ≤ s .nr
   -- a frame has at most 127 octets
   pub frame : s .head + s .payload ≤ 127
+  -- tries may fail only where an acknowledgement tells
+  pub acknowledged : 0 < s .loss → 0 < s .ack
 
 -- no condition of numbers 3 and 4 is broken exactly where settings are checked
 abbrev pub UnbrokenWhereChecked : Type 0

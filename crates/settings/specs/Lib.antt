@@ -1,5 +1,5 @@
 -- What a reader must believe of settings, in reading order. Assumes nothing.
--- the twelve columns, their names and ranges
+-- the columns, their names and ranges
 pub mod Columns
 -- the values of settings, and the conditions of numbers 3 and 4
 pub mod Checks

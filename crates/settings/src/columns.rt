@@ -11,12 +11,12 @@ use refusals::Refusal;
 use refusals::Verdict;
 
 // The first value outside its column's range, if any is.
-pub(crate) fn in_range(numbers: [u64; 12]) -> Verdict
-    requires { ⌜ length numbers ≡ 12 ⌝ }
+pub(crate) fn in_range(numbers: [u64; 13]) -> Verdict
+    requires { ⌜ length numbers ≡ 13 ⌝ }
     ensures { λ r. ⌜ r ≡ firstBroken Broken Kept (ranged 1 table numbers) ⌝ }
 {
     let mut k = 0;
-    while k < 12 {
+    while k < 13 {
         let v = numbers[k];
         if !fits(k, v) {
             return outside(k, v);
@@ -28,7 +28,7 @@ pub(crate) fn in_range(numbers: [u64; 12]) -> Verdict
 
 // Whether a value is in the range of the column behind the first k.
 fn fits(k: usize, value: u64) -> bool
-    requires { ⌜ k < 12 ⌝ }
+    requires { ⌜ k < 13 ⌝ }
     ensures { λ r. ⌜ r ≡ within (columnAt k) value ⌝ }
 {
     if value < lowest(k) {
@@ -39,7 +39,7 @@ fn fits(k: usize, value: u64) -> bool
 
 // The lowest value of the column behind the first k. (Tests and no table: an array would be copied at each use.)
 fn lowest(k: usize) -> u64
-    requires { ⌜ k < 12 ⌝ }
+    requires { ⌜ k < 13 ⌝ }
     ensures { λ r. ⌜ r ≡ columnAt k .lowest ⌝ }
 {
     if k < 7 {
@@ -57,12 +57,12 @@ fn lowest(k: usize) -> u64
     if k < 11 {
         return 1; // DATA
     }
-    0 // ACK
+    0 // ACK LOSS
 }
 
 // The highest value of the column behind the first k.
 fn highest(k: usize) -> u64
-    requires { ⌜ k < 12 ⌝ }
+    requires { ⌜ k < 13 ⌝ }
     ensures { λ r. ⌜ r ≡ columnAt k .highest ⌝ }
 {
     if k < 1 {
@@ -98,12 +98,15 @@ fn highest(k: usize) -> u64
     if k < 11 {
         return 122; // DATA
     }
-    1 // ACK
+    if k < 12 {
+        return 1; // ACK
+    }
+    7 // LOSS
 }
 
 // The refusal of the value behind the first k.
 fn outside(k: usize, value: u64) -> Verdict
-    requires { ⌜ k < 12 ⌝ }
+    requires { ⌜ k < 13 ⌝ }
     ensures { λ r. ⌜ r ≡ Broken (OutOfRange (k + 1) value) ⌝ }
 {
     Verdict::Broken(Refusal::OutOfRange {

@@ -1,5 +1,5 @@
-// Settings (document 01, 'Rows of settings'): twelve values, and whether they keep the conditions of numbers 3 and 4. Nothing here
-// knows how they are written.
+// Settings (document 01, 'Rows of settings'; LOSS: document 02, E5): thirteen values, and whether they keep the conditions of numbers 3 and 4.
+// Nothing here knows how they are written.
 //
 // No public function has a `requires`: each answers every argument, as an equation with a definition of specs/ says. Nothing is
 // written anywhere.
@@ -14,7 +14,7 @@ use refusals::Verdict;
 mod columns; // the values' ranges: number 3
 mod odds; // values at odds: number 4
 
-// The values of a row, by its columns: BO SO H NR NE OWN SINK BURST RATE HEAD DATA ACK.
+// The values of a row, by its columns: BO SO H NR NE OWN SINK BURST RATE HEAD DATA ACK LOSS.
 pub struct Settings {
     pub bo: u64,
     pub so: u64,
@@ -28,6 +28,7 @@ pub struct Settings {
     pub head: u64,
     pub payload: u64,
     pub ack: u64,
+    pub loss: u64,
 }
 
 // Whether settings keep every range and are not at odds, or the first refusal of numbers 3 and 4.
@@ -42,7 +43,7 @@ pub fn check(s: Settings) -> Verdict
 }
 
 // The values in the columns' order.
-fn values_of(s: Settings) -> [u64; 12]
+fn values_of(s: Settings) -> [u64; 13]
     ensures { λ r. ⌜ r ≡ valuesOf s ⌝ }
 {
     [
@@ -58,5 +59,6 @@ fn values_of(s: Settings) -> [u64; 12]
         s.head,
         s.payload,
         s.ack,
+        s.loss,
     ]
 }

@@ -1,4 +1,4 @@
-// Values at odds with each other: number 4 of document 01's table.
+// Values at odds with each other: number 4 of document 01's table, with document 02's E5.
 ghost use mathlib.Core.Path.{_≡_};
 ghost use mathlib.Core.Bool.{_&&_};
 ghost use Prim.Native.Nat.{_+_};
@@ -15,7 +15,7 @@ use refusals::Verdict;
 // The most octets that a frame has.
 const LONGEST_FRAME: u64 = 127;
 
-// The first values at odds, in document 01's order, if any are.
+// The first values at odds, in the papers' order, if any are.
 pub(crate) fn agree(s: Settings) -> Verdict
     ensures { λ r. ⌜ r ≡ firstBroken Broken Kept (atOdds s) ⌝ }
 {
@@ -50,6 +50,12 @@ pub(crate) fn agree(s: Settings) -> Verdict
         return conflict(Conflict::FrameLength {
             head: s.head,
             payload: s.payload,
+        });
+    }
+    if some_with_none(s.loss, s.ack) {
+        return conflict(Conflict::Unacknowledged {
+            loss: s.loss,
+            ack: s.ack,
         });
     }
     Verdict::Kept

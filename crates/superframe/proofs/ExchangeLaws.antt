@@ -55,3 +55,12 @@ pub exchange-most : (m : ℕ) (a : Bool) → m ≤ 127 → exchange m a .0 ≤ 3
 unfolding exchange acknowledgement airTime spacing
 exchange-most m true h = exchange-grows m 127 true h
 exchange-most m false h = omega (arith, exchange-grows m 127 false h)
+
+pub exchange-for-most : (m : ℕ) (a : Bool) → exchangeFor m a .0 ≤ 340
+exchange-for-most m a = elim (decLe 6 m) [
+  | yes low ↦ elim (decLe m 127) [
+    | yes high ↦ rw (exchange-for-octets m a low high) (exchange-most m a high)
+    | no f ↦ rw (exchange-for-long m a (omega arith)) (omega arith)
+  ]
+  | no f ↦ rw (exchange-for-short m a (omega arith)) (omega arith)
+]

@@ -3,9 +3,10 @@ use mathlib.Core.Path.{refl}
 use Rattle.measure.specs.Measures.{roundedUp}
 use Rattle.superframe.specs.Orders.{beaconInterval, superframe, slot, beaconLength, contention, reservable}
 use Rattle.superframe.specs.Exchange.{airTime, acknowledgement, spacing, exchange}
+use Rattle.superframe.specs.Loss.{failedTry, withLoss, lossyExchange}
 use Rattle.superframe.specs.Reservation.{framesIn, slotsFor, latency}
 use Rattle.superframe.specs.Figures.{orders, given, figures, FiguresHold}
 
 pub figures-hold : FiguresHold
-unfolding beaconInterval superframe slot beaconLength contention reservable airTime acknowledgement spacing exchange framesIn slotsFor latency roundedUp orders given figures FiguresHold
+unfolding beaconInterval superframe slot beaconLength contention reservable airTime acknowledgement spacing exchange failedTry withLoss lossyExchange framesIn slotsFor latency roundedUp orders given figures FiguresHold
 figures-hold = refl

@@ -5,6 +5,8 @@ pub mod OrderLaws
 pub mod ExchangeLaws
 -- the table of exchange times: the rule at each entry
 pub mod TableLaws
+-- X with loss
+pub mod LossLaws
 -- m, k, T
 pub mod ReservationLaws
 -- document 01's figures

@@ -1,12 +1,13 @@
 -- The figures that document 01 states of time on the air, each beside what the definitions give, in one table. Assumes nothing.
 use mathlib.Core.Path.{_≡_}
 use mathlib.Core.Bool.{true, false}
-use mathlib.Core.List.{List, [], _∷_, map}
+use mathlib.Core.List.{List, [], _∷_, _++_, map}
 use Prim.Native.Nat.{ℕ, _^_}
 use Prim.Native.String.{String}
 use Rattle.measure.specs.Measures.{frames, slots, perInterval}
 use Rattle.superframe.specs.Orders.{beaconInterval, superframe, slot, beaconLength, contention, reservable}
 use Rattle.superframe.specs.Exchange.{exchange}
+use Rattle.superframe.specs.Loss.{lossyExchange}
 use Rattle.superframe.specs.Reservation.{framesIn, slotsFor, latency}
 
 -- what the figures are of, what the definitions give, and what the document or the standard states
@@ -26,6 +27,11 @@ figures =
     given "X for M = 18, 19, 127, and 127 acknowledged"
     (exchange 18 false .0 ∷ exchange 19 false .0 ∷ exchange 127 false .0 ∷ exchange 127 true .0 ∷ [])
     (60 ∷ 90 ∷ 306 ∷ 340 ∷ [])
+    ∷ given "X + LOSS × (X + 20) for LOSS 0, 1, 2 and 7, M = 127 acknowledged; LOSS 1 and 7 with M = 18 and 19 (E5)"
+    (map (λ loss. lossyExchange 127 true loss .0) (0 ∷ 1 ∷ 2 ∷ 7 ∷ [])
+    ++ map (λ loss. lossyExchange 18 true loss .0) (1 ∷ 7 ∷ [])
+    ++ map (λ loss. lossyExchange 19 true loss .0) (1 ∷ 7 ∷ []))
+    (340 ∷ 700 ∷ 1060 ∷ 2860 ∷ 208 ∷ 892 ∷ 268 ∷ 1132 ∷ [])
     ∷ given "beacons for g = 0 to 7"
     (map (λ g. beaconLength g .0) (0 ∷ 1 ∷ 2 ∷ 3 ∷ 4 ∷ 5 ∷ 6 ∷ 7 ∷ []))
     (38 ∷ 46 ∷ 52 ∷ 58 ∷ 64 ∷ 70 ∷ 76 ∷ 82 ∷ [])

@@ -5,6 +5,8 @@ pub mod Orders
 pub mod Exchange
 -- the table of exchange times, its order and its rule
 pub mod ExchangeTable
+-- an exchange in which tries of its frame may fail
+pub mod Loss
 -- m, k, the rate of a reservation, T
 pub mod Reservation
 -- document 01's figures, computed in one table

@@ -4,4 +4,5 @@
 // Where a number passes 64 bits, or an argument lies outside document 01's range, the contract names the answer.
 pub mod orders; // beacon interval, superframe, slot, beacon, contention period, reservable slots
 pub mod exchange; // how long the exchange of one frame lasts
+pub mod loss; // the same where tries of the frame may fail
 pub mod reservation; // frames in a reservation, slots for a rate, latency

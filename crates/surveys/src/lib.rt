@@ -37,8 +37,8 @@ mod page; // the lines
 mod plans; // the plan of a tree
 
 // The settings beside a node list, as settings of a row: what that row has besides breaks no rule.
-pub fn beside(bo: u64, so: u64, head: u64, payload: u64, ack: u64) -> Settings
-    ensures { λ r. ⌜ r ≡ definition.beside bo so head payload ack ⌝ }
+pub fn beside(bo: u64, so: u64, head: u64, payload: u64, ack: u64, loss: u64) -> Settings
+    ensures { λ r. ⌜ r ≡ definition.beside bo so head payload ack loss ⌝ }
 {
     Settings {
         bo,
@@ -53,6 +53,7 @@ pub fn beside(bo: u64, so: u64, head: u64, payload: u64, ack: u64) -> Settings
         head,
         payload,
         ack,
+        loss,
     }
 }
 

@@ -2,12 +2,12 @@
 use mathlib.Core.Path.{refl}
 use Rattle.balanced.specs.Witness.{columns}
 use Rattle.tree.specs.Promise.{longest}
-use Rattle.tree.specs.Examples.{upTo, nodeColumns, table, common, balancedTree, BalancedTrees, acknowledged, branches, Branches, silent, lone, WithoutLinks, chain, SettingsRefused, whole, star, eight, eightOneSilent, elevenFourSilent, bothBroken, twoDown, fullBelow, oneSilent, RoutersRefused}
+use Rattle.tree.specs.Examples.{upTo, nodeColumns, table, common, balancedTree, BalancedTrees, acknowledged, branches, Branches, twoFailures, WithLoss, silent, lone, WithoutLinks, chain, SettingsRefused, whole, star, eight, eightOneSilent, elevenFourSilent, bothBroken, twoDown, fullBelow, oneSilent, RoutersRefused}
 use Rattle.tree.proofs.Computing.{trees}
 
 -- to unfold `tables` is to unfold all that the examples are computed with
 tables : Type 0
-unfolding trees columns longest upTo nodeColumns table common balancedTree acknowledged branches silent lone chain whole star eight eightOneSilent elevenFourSilent bothBroken twoDown fullBelow oneSilent
+unfolding trees columns longest upTo nodeColumns table common balancedTree acknowledged branches twoFailures silent lone chain whole star eight eightOneSilent elevenFourSilent bothBroken twoDown fullBelow oneSilent
 tables = Unit
 
 pub balanced-trees : BalancedTrees
@@ -38,6 +38,10 @@ branches-hold = record {
   largestRoute = refl;
 }
 
+pub with-loss : WithLoss
+unfolding tables
+with-loss = record { printed = refl; planned = refl; tooLong = refl; without = refl }
+
 pub without-links : WithoutLinks
 unfolding tables
 without-links = record {
@@ -57,14 +61,19 @@ settings-refused = record {
   noPayload = refl;
   longPayload = refl;
   acknowledgement = refl;
+  loss = refl;
   lowestColumn = refl;
   ordersAtOdds = refl;
   frameAtOdds = refl;
   frameLongest = refl;
+  unacknowledged = refl;
+  mostLoss = refl;
+  frameFirst = refl;
   ordersFirst = refl;
   threeBeforeFour = refl;
   fourBeforeSix = refl;
   frameBeforeSix = refl;
+  lossBeforeSix = refl;
   tooManyRouters = refl;
   rootIsRouter = refl;
   justMet = refl;

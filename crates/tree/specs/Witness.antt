@@ -12,7 +12,7 @@ use Rattle.network.specs.Oracle.{run}
 use Rattle.network.specs.Examples.{reading, first, received}
 use Rattle.settings.specs.declared.Settings.{Settings}
 use Rattle.balanced.specs.Times.{timingOf}
-use Rattle.balanced.specs.Witness.{lengthsAt}
+use Rattle.balanced.specs.Witness.{lengthsAt, soonFrom}
 use Rattle.tree.specs.Tree.{Tree, treeOf}
 use Rattle.tree.specs.Beside.{beside}
 use Rattle.tree.specs.Lines.{lines}
@@ -26,7 +26,7 @@ use Rattle.tree.specs.Examples.{table}
 
 -- BO 2, SO 0, HEAD 5, DATA 1, ACK 0: BI = 3840, S = 60, X = 36
 unfoldable pub short : Settings
-short = beside 2 0 5 1 0
+short = beside 2 0 5 1 0 0
 
 -- The sink, 2, and router 3 are child routers of the root. Of the end nodes, 4 is the root's, 5 the sink's, 6 router 3's. The sink has BURST 2,
 -- node 6 BURST 2 and RATE 2, and all others BURST 1 and RATE 1.
@@ -87,7 +87,7 @@ pub record Witnessed : Type 0 where
 
 -- BO 0, SO 0, HEAD 17, DATA 1, ACK 0: BI = 960, S = X = 60
 unfoldable pub shortest : Settings
-shortest = beside 0 0 17 1 0
+shortest = beside 0 0 17 1 0 0
 
 -- the root, which is the sink, and its end node with BURST 1 and RATE 2: β = 960, ρ = 2, m = 2 and T = 960
 unfoldable pub pair : Tree
@@ -99,7 +99,7 @@ pairNetwork = networkOf shortest (lines shortest pair 1) pair 1 (λ i. 0)
 
 -- a frame that misses the start in symbol 60, and one more as soon as the token bucket has room for it, twice
 unfoldable pub fullReadings : List Reading
-fullReadings = reading 60 1 1 ∷ reading 539 1 1 ∷ reading 1019 1 1 ∷ []
+fullReadings = soonFrom 60
 
 -- Its queue holds BUFFER frames: no smaller BUFFER would do.
 pub record Filled : Type 0 where
@@ -116,11 +116,36 @@ pub record Filled : Type 0 where
   -- That frame came 960 symbols after it was made: β / m = 480 symbols without T would be too few.
   pub arrived : received pairNetwork fullReadings first 1020 ≡ 1 ∷ 60 ∷ 1020 ∷ []
 
+-- ---- tries that may fail (document 02, E5)
+
+-- BO 0, SO 0, HEAD 5, DATA 1, ACK 1, LOSS 1: BI = 960, S = 60, X = 70, so that an exchange with one failed try of 90 lasts 160
+unfoldable pub lossy : Settings
+lossy = beside 0 0 5 1 1 1
+
+-- the end node's starts: 0, 160, 960, 1120 and so on
+unfoldable pub lossyNetwork : Network
+lossyNetwork = networkOf lossy (lines lossy pair 1) pair 1 (λ i. 0)
+
+-- a frame that misses the start in symbol 160, and two more
+unfoldable pub lossyReadings : List Reading
+lossyReadings = soonFrom 160
+
+pub record Lossy : Type 0 where
+  pub planned : outcomeOf lossy pair 1 ≡ Planned (lines lossy pair 1)
+  pub columns : table lossy pair 1
+      ≡ (83 ∷ 0 ∷ 2 ∷ 2880 ∷ 0 ∷ 0 ∷ 0 ∷ 3 ∷ 0 ∷ 0 ∷ []) ∷ (69 ∷ 1 ∷ 2 ∷ 960 ∷ 6 ∷ 2 ∷ 960 ∷ 3 ∷ 1440 ∷ 1440 ∷ []) ∷ []
+  pub windowsFit : Windows lossy (lines lossy pair 1) lossyNetwork (λ i. 0)
+  pub keepBuckets : Readings lossy pair lossyReadings
+  -- "a frame counts as received when its exchange ends": the first frame is sent in symbol 960 and fills its place through 1119, when the queue
+  -- is full, and it comes to the sink in 1120
+  pub full : length (queue (run lossyNetwork lossyReadings first 1120) 1) ≡ printed (lines lossy pair 1) 1 .buffer .0
+  pub arrived : received lossyNetwork lossyReadings first 1120 ≡ 1 ∷ 160 ∷ 1120 ∷ []
+
 -- ---- a frame that is longer on its way than its own link's DELAY
 
 -- BO 1, SO 0, HEAD 17, DATA 1, ACK 0: BI = 1920, S = X = 60
 unfoldable pub shorter : Settings
-shorter = beside 1 0 17 1 0
+shorter = beside 1 0 17 1 0 0
 
 -- the root, which is the sink, router 2 below it, and that one's end node 3 with BURST 1 and RATE 7
 unfoldable pub twoHops : Tree

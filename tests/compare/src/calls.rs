@@ -28,8 +28,7 @@ pub struct Differing {
 impl<P: Planner> Calls<'_, P> {
     /// Draws a row and compares on it.
     pub fn next_row(&mut self) -> Result<(), Differing> {
-        let names = rows::names(&mut self.caller.rng);
-        let row = rows::row(&mut self.caller.rng);
+        let (names, row) = rows::named_row(&mut self.caller.rng);
         self.compare(&names, &row).map_err(|report| Differing { names, row, report })
     }
 
@@ -41,7 +40,7 @@ impl<P: Planner> Calls<'_, P> {
     fn compare(&mut self, names: &[u8], row: &[u8]) -> Result<(), String> {
         let outcome = plan_named_row(names, row);
         self.totals.rows += 1;
-        self.totals.seen.note(&outcome);
+        self.totals.seen.note(names, row, &outcome);
         let mut inputs = Inputs::new(&mut self.caller.rng, names, row);
         let expected = Expected::planning(&outcome);
         self.check(&mut inputs, &expected)?;
@@ -87,7 +86,7 @@ impl<P: Planner> Calls<'_, P> {
 mod tests {
     use crate::difference::TOO_SHORT;
     use crate::entries::{Answer, Library};
-    use crate::wrong::{is_found_out, Wrong, WRONG_COUNTS};
+    use crate::wrong::{is_found_out, Wrong, WRONG_COUNTS, WRONG_LOSSES};
 
     fn fault_is_found_out(fault: impl Fn(&mut Answer, &mut [u8], &mut [u8]) + 'static) -> bool {
         is_found_out(&Wrong { planning: Box::new(fault), ..Wrong::default() })
@@ -104,6 +103,14 @@ mod tests {
     fn another_count_of_slots() {
         for (name, count) in WRONG_COUNTS {
             assert!(is_found_out(&Wrong::counting(count)), "{name}");
+        }
+    }
+
+    /// Exchanges and name lines by another rule than that of request E5.
+    #[test]
+    fn another_rule_for_loss() {
+        for (name, reading) in WRONG_LOSSES {
+            assert!(is_found_out(&Wrong { reading_rows: reading, ..Wrong::default() }), "{name}");
         }
     }
 

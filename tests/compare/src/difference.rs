@@ -164,18 +164,18 @@ fn expected_byte(text: &[u8], found: &Found, at: usize) -> Option<u8> {
 #[cfg(test)]
 mod tests {
     use super::*;
-    use reference::plan_row;
+    use reference::{plan_row, Heading};
 
     const PLANNED: &[u8] = b"8 4 1 2 1 0 1 1 1 19 7 0";
     const REFUSED: &[u8] = b"0 0 0 0 5 0 0 1 1 19 7 0";
     const START: usize = 5;
 
     fn plan(row: &[u8]) -> Expected {
-        Expected::planning(&plan_row(row))
+        Expected::planning(&plan_row(Heading::WithoutLoss, row))
     }
 
     fn line(row: &[u8]) -> Expected {
-        Expected::explaining(&plan_row(row))
+        Expected::explaining(&plan_row(Heading::WithoutLoss, row))
     }
 
     /// All that puts a text.

@@ -1,5 +1,5 @@
 //! Holds the planner's entries for C and its programs against the reference implementation of document 01 and of
-//! requests E1 to E3.
+//! requests E1, E2, E3 and E5.
 
 pub mod buffers;
 mod caller;
@@ -12,5 +12,6 @@ pub mod program;
 pub mod reasons;
 pub mod totals;
 pub mod trees;
+mod twins;
 #[cfg(test)]
 mod wrong;

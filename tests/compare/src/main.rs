@@ -1,10 +1,11 @@
 //! compare SEED ROWS TEXTS [PLAN-PROGRAM [EXPLAIN-PROGRAM]]
 //!
 //! Compares the planner's entries for C on ROWS random rows, and programs `plan` and `explain` on TEXTS random inputs,
-//! with the reference implementation. Exit status 0: no difference; 1: a difference, or something that rows can reach
+//! with the reference implementation; and, for some more rows and inputs under 12 names, with their own answers to the
+//! same under 13 names with LOSS 0. Exit status 0: no difference; 1: a difference, or something that rows can reach
 //! was not reached; 2: wrong arguments.
 
-use compare::calls::Calls;
+use compare::calls::{Calls, Differing};
 use compare::entries::Library;
 use compare::program;
 use compare::totals::Totals;
@@ -15,6 +16,9 @@ use std::process::ExitCode;
 
 /// From this many rows on, everything that rows can reach must have been reached.
 const ENOUGH_ROWS: u64 = 100_000;
+/// Rows and inputs that are held against their twin, one for so many others.
+const ROWS_PER_TWIN: u64 = 10;
+const TEXTS_PER_TWIN: u64 = 4;
 
 struct Arguments {
     seed: u64,
@@ -72,15 +76,15 @@ fn run(arguments: &Arguments) -> Result<Totals, String> {
 fn compare_rows(arguments: &Arguments) -> Result<Totals, String> {
     let mut calls = Calls::new(&Library, arguments.seed);
     for index in 0..arguments.rows {
-        calls.next_row().map_err(|differing| {
-            format!(
-                "DIFFERENCE: seed {}, row {index}\nnames \"{}\"\nrow \"{}\"\n{}",
-                arguments.seed,
-                differing.names.escape_ascii(),
-                differing.row.escape_ascii(),
-                differing.report
-            )
-        })?;
+        let described = |differing: Differing| {
+            let Differing { names, row, report } = differing;
+            let (names, row) = (names.escape_ascii(), row.escape_ascii());
+            format!("DIFFERENCE: seed {}, row {index}\nnames \"{names}\"\nrow \"{row}\"\n{report}", arguments.seed)
+        };
+        calls.next_row().map_err(described)?;
+        if index % ROWS_PER_TWIN == 0 {
+            calls.next_twins().map_err(described)?;
+        }
     }
     calls.refusals().map_err(|report| format!("DIFFERENCE: seed {}, refusals\n{report}", arguments.seed))?;
     Ok(calls.totals)
@@ -89,14 +93,25 @@ fn compare_rows(arguments: &Arguments) -> Result<Totals, String> {
 fn compare_texts(arguments: &Arguments, totals: &mut Totals) -> Result<(), String> {
     let mut rng = Rng::new(!arguments.seed);
     for index in 0..arguments.texts {
-        let text = rows::text(&mut rng);
-        let length = compare_text(arguments, &text).map_err(|report| {
+        let described = |text: &[u8], report: String| {
             let text = text.escape_ascii();
             format!("DIFFERENCE: seed {}, text {index}\ninput \"{text}\"\n{report}", arguments.seed)
-        })?;
+        };
+        let text = rows::text(&mut rng);
+        let length = compare_text(arguments, &text).map_err(|report| described(&text, report))?;
         totals.note_text(length);
+        if index % TEXTS_PER_TWIN == 0 {
+            let twins = rows::twin_texts(&mut rng);
+            let length = compare_twins(arguments, &twins).map_err(|report| described(&twins[0], report))?;
+            totals.note_twin_texts(length);
+        }
     }
     Ok(())
+}
+
+/// Both programs on an input under 12 names and on its twin.
+fn compare_twins(arguments: &Arguments, twins: &[Vec<u8>; 2]) -> Result<usize, String> {
+    Ok(program::compare_twins(&arguments.plan, twins)? + program::compare_twins(&arguments.explain, twins)?)
 }
 
 /// Both programs on the same input. Returns the number of bytes compared.

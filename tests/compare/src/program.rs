@@ -22,6 +22,12 @@ pub fn compare_with(program: &Path, arguments: &[&[u8]], input: &[u8], expected:
     Ok(expected.len())
 }
 
+/// Runs a program on an input and on its twin and compares what it prints. Returns the number of bytes compared.
+pub fn compare_twins(program: &Path, [input, twin]: &[Vec<u8>; 2]) -> Result<usize, String> {
+    let printed = run(program, &[], input).map_err(|error| format!("{}: {error}", program.display()))?.stdout;
+    compare(program, twin, &printed).map_err(|report| format!("with LOSS 0 under 13 names: {report}"))
+}
+
 /// The input is written by a thread of its own, so that neither side waits for the other with a full pipe.
 fn run(program: &Path, arguments: &[&[u8]], input: &[u8]) -> io::Result<Output> {
     let arguments = arguments.iter().map(|argument| OsStr::from_bytes(argument));

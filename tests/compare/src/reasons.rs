@@ -171,7 +171,7 @@ mod tests {
     use crate::difference::TOO_SHORT;
     use crate::entries::{Answer, Refusal};
     use crate::wrong::{is_found_out, Wrong, WRONG_COUNTS};
-    use reference::{Phrase, NAMES};
+    use reference::{Phrase, LOSS_NAMES};
 
     fn explaining(fault: impl Fn(&mut Answer, &mut [u8], &mut [u8]) + 'static) -> bool {
         let fault = move |_, answer: &mut Answer, row: &mut [u8], line: &mut [u8]| fault(answer, row, line);
@@ -327,6 +327,7 @@ mod tests {
         assert!(reading(|line| line.split(|&byte| byte == b'\n').next().unwrap_or_default().to_vec()), "LF");
         assert!(reading(without_leading_zeros), "leading zeros");
         assert!(reading(|line| replaced(line, " of 3 ", " of H ")), "column by its number");
+        assert!(reading(|line| replaced(line, " of 13 ", " of LOSS ")), "column 13 by its number");
         assert!(reading(with_fitting_column), "wrong column");
         assert!(reading(|line| replaced(line, " 4294967308 ", " 12 ")), "place cut to 32 bits");
         assert!(reading(|line| replaced(line, " 18446744073709551628 ", " 12 ")), "place cut to 64 bits");
@@ -347,8 +348,10 @@ mod tests {
         for digits in [10, 20, 39] {
             assert!(reading(long(digits)), "{digits}");
         }
-        assert!(reading(|line| replaced(line, " of 13 ", " of x ")));
+        assert!(reading(|line| replaced(line, " of 14 ", " of x ")));
         assert!(reading(|line| replaced(line, " of 0 ", " of x ")));
+        assert!(reading(|line| replaced(line, " of LOSS ", " of x ")));
+        assert!(reading(|line| replaced(line, " column 14 ", " column x ")));
     }
 
     #[test]
@@ -387,7 +390,7 @@ mod tests {
         let start = b"Values are at odds at ";
         let comma = line.iter().position(|&byte| byte == b',').filter(|_| line.starts_with(start));
         let with = |name: &str| comma.map(|comma| [start, name.as_bytes(), &line[comma..]].concat());
-        let fitting = NAMES.split(' ').filter_map(with).find(|other| read_reason(other).is_some());
+        let fitting = LOSS_NAMES.split(' ').filter_map(with).find(|other| read_reason(other).is_some());
         fitting.unwrap_or(line.to_vec())
     }
 

@@ -18,6 +18,10 @@ pub struct Totals {
     /// Buffers answered with number 8.
     pub too_short: u64,
     pub texts: u64,
+    /// Rows that were held against their twin, planned and refused.
+    pub twins: [u64; 2],
+    /// Inputs that both programs were given beside their twin.
+    pub twin_texts: u64,
     /// Bytes of memories around calls, and of outputs of the programs.
     pub bytes: u64,
     pub seen: Seen,
@@ -51,10 +55,24 @@ impl Totals {
         self.bytes += length as u64;
     }
 
-    /// What can be reached and was not: refusals, shapes of plans, lines and damages of lines.
+    /// Counts a row that was answered with this number and held against its twin.
+    pub fn note_twins(&mut self, number: u32) {
+        self.calls += 4;
+        self.twins[usize::from(number != 0)] += 1;
+    }
+
+    /// Counts an input that was held against its twin, with this many bytes of output.
+    pub fn note_twin_texts(&mut self, length: usize) {
+        self.twin_texts += 1;
+        self.bytes += length as u64;
+    }
+
+    /// What can be reached and was not: refusals, shapes of plans, lines and damages of lines, twins.
     pub fn missing(&self) -> Vec<String> {
         let mut missing = self.seen.missing();
         missing.extend(self.lines.missing());
+        let twins = self.twins.iter().zip(["planned", "refused"]).filter(|(count, _)| **count == 0);
+        missing.extend(twins.map(|(_, name)| format!("a row with a twin that is {name}")));
         missing
     }
 
@@ -63,18 +81,27 @@ impl Totals {
     }
 }
 
-/// The refusals, one line for each number with its places and their counts, the shapes, the lines, and a line of totals.
+/// The refusals, one line for each number with its places and their counts, phrase by phrase, the shapes, the planned
+/// rows by LOSS, the twins, the lines, and a line of totals.
 impl fmt::Display for Totals {
     fn fmt(&self, out: &mut fmt::Formatter) -> fmt::Result {
         let mut by_number: BTreeMap<u32, String> = BTreeMap::new();
-        for ((number, place), count) in &self.seen.refusals {
-            by_number.entry(*number).or_default().push_str(&format!(" {place}:{count}"));
+        for ((phrase, place), count) in &self.seen.refusals {
+            by_number.entry(phrase.number()).or_default().push_str(&format!(" {place}:{count}"));
         }
         for (number, places) in by_number {
             writeln!(out, "refused with {number}, place:rows{places}")?;
         }
         let fewest = self.seen.shapes.values().min().copied().unwrap_or(0);
         writeln!(out, "plans of {} shapes (H, SINK), at least {fewest} rows each", self.seen.shapes.len())?;
+        let losses = self.seen.losses.iter().map(|(loss, count)| match loss {
+            None => format!(" none:{count}"),
+            Some(loss) => format!(" {loss}:{count}"),
+        });
+        writeln!(out, "planned rows, LOSS:rows{}", losses.collect::<String>())?;
+        let [planned, refused] = self.twins;
+        let texts = self.twin_texts;
+        writeln!(out, "rows held against their twin: {planned} planned, {refused} refused; inputs: {texts}")?;
         writeln!(out, "{}", self.lines)?;
         write!(
             out,

@@ -1,5 +1,5 @@
-//! Surveyed trees (request E3 of document 02): the entries for C and program `plan_tree` against the reference, and
-//! node lists of full balanced trees against the rows that they are the trees of.
+//! Surveyed trees (request E3 of document 02, with LOSS of request E5): the entries for C and program `plan_tree`
+//! against the reference, and node lists of full balanced trees against the rows that they are the trees of.
 
 pub mod calls;
 pub mod entries;

@@ -1,5 +1,6 @@
-//! Document 01, "Time on the air": what a beacon order, a superframe order and a frame length make of time; and request
-//! E2 of document 02, by which the beacon takes its time too. All times are in symbols.
+//! Document 01, "Time on the air": what a beacon order, a superframe order and a frame length make of time; and of
+//! document 02 request E2, by which the beacon takes its time too, and request E5, by which tries of a frame may fail.
+//! All times are in symbols.
 
 /// Symbols of the superframe of order 0; its 16 slots have 60 each.
 const BASE_SUPERFRAME: u64 = 960;
@@ -21,6 +22,8 @@ const ACKNOWLEDGEMENT: u64 = 34;
 const SHORT_FRAME: u64 = 18;
 const SHORT_SPACE: u64 = 12;
 const LONG_SPACE: u64 = 40;
+/// A failed try takes so much more than X, as it waits 54 for an acknowledgement that does not come.
+const FAILED_WAIT: u64 = 20;
 
 /// The times of one network.
 pub struct Air {
@@ -28,7 +31,7 @@ pub struct Air {
     pub interval: u64,
     /// S.
     slot: u64,
-    /// X.
+    /// The time of one exchange, failed tries included.
     exchange: u64,
 }
 
@@ -41,17 +44,18 @@ pub struct Reservation {
 }
 
 impl Air {
-    /// The times for BO, SO, the frame length M and ACK.
-    pub fn new(beacon_order: u64, superframe_order: u64, octets: u64, acknowledged: bool) -> Air {
+    /// The times for BO, SO, the frame length M, ACK and LOSS.
+    pub fn new(beacon_order: u64, superframe_order: u64, octets: u64, acknowledged: bool, loss: u64) -> Air {
         Air {
             interval: BASE_SUPERFRAME << beacon_order,
             slot: slot(superframe_order),
-            exchange: exchange(octets, acknowledged),
+            exchange: exchange_with_loss(octets, acknowledged, loss),
         }
     }
 
-    /// The reservation with the smallest k for which floor(k × S / X) ≥ rate. As the rate is a whole number, that is
-    /// the smallest k with k × S ≥ rate × X.
+    /// The reservation with the smallest k for which floor(k × S / X) ≥ rate, where X is the time of the exchange with
+    /// its failed tries ("all that was built on X follows"), as below. As the rate is a whole number, that is the
+    /// smallest k with k × S ≥ rate × X.
     pub fn reserve(&self, rate: u64) -> Reservation {
         let slots = (rate * self.exchange).div_ceil(self.slot);
         Reservation { rate, slots, frames: slots * self.slot / self.exchange }
@@ -86,8 +90,15 @@ pub fn reservable(superframe_order: u64, reservations: u64) -> u64 {
     SLOTS_IN_SUPERFRAME.saturating_sub(contention)
 }
 
-/// X, the time of one exchange.
-pub fn exchange(octets: u64, acknowledged: bool) -> u64 {
+/// Request E5: the time of one exchange in which up to so many tries of its frame may fail before one succeeds:
+/// X + LOSS × (X + 20). It is at most 340 + 7 × 360 = 2,860.
+pub fn exchange_with_loss(octets: u64, acknowledged: bool, loss: u64) -> u64 {
+    let exchange = exchange(octets, acknowledged);
+    exchange + loss * (exchange + FAILED_WAIT)
+}
+
+/// X, the time of one exchange of which no try fails.
+fn exchange(octets: u64, acknowledged: bool) -> u64 {
     let acknowledgement = if acknowledged { ACKNOWLEDGEMENT } else { 0 };
     let space = if octets <= SHORT_FRAME { SHORT_SPACE } else { LONG_SPACE };
     TURNAROUND + SYMBOLS_PER_OCTET * octets + acknowledgement + space
@@ -103,6 +114,29 @@ mod tests {
         assert_eq!(exchange(19, false), 90);
         assert_eq!(exchange(127, false), 306);
         assert_eq!(exchange(127, true), 340);
+    }
+
+    /// M = 6 acknowledged: 12 + 12 + 34 + 12 = 70, a failed try 90. M = 26 acknowledged: 12 + 52 + 34 + 40 = 138, a
+    /// failed try 158. M = 127 acknowledged: 340, a failed try 360.
+    #[test]
+    fn exchange_times_with_failed_tries() {
+        let times = |octets| [0, 1, 2, 7].map(|loss| exchange_with_loss(octets, true, loss));
+        assert_eq!(times(6), [70, 70 + 90, 70 + 2 * 90, 70 + 7 * 90]);
+        assert_eq!(times(26), [138, 296, 454, 1_244]);
+        assert_eq!(times(127), [340, 700, 1_060, 2_860]);
+        assert_eq!([6, 18, 19, 127].map(|octets| exchange_with_loss(octets, false, 0)), [36, 60, 90, 306]);
+    }
+
+    /// A failed try is the frame and the wait of 54 in the place of turnaround and acknowledgement, which are 34.
+    #[test]
+    fn a_failed_try_waits_54() {
+        for octets in 6..=127 {
+            let failed = exchange(octets, false) + 54;
+            for loss in 1..=7 {
+                let more = exchange_with_loss(octets, true, loss) - exchange_with_loss(octets, true, loss - 1);
+                assert_eq!(more, failed, "M {octets}, LOSS {loss}");
+            }
+        }
     }
 
     #[test]
@@ -173,15 +207,15 @@ mod tests {
 
     #[test]
     fn interval_and_slot() {
-        let air = Air::new(8, 4, 26, false);
+        let air = Air::new(8, 4, 26, false, 0);
         assert_eq!((air.interval, air.slot), (245_760, 960));
-        let air = Air::new(14, 14, 26, false);
+        let air = Air::new(14, 14, 26, false, 0);
         assert_eq!((air.interval, air.slot), (15_728_640, 983_040));
     }
 
     #[test]
     fn p5_and_p6() {
-        let air = Air::new(0, 0, 18, false);
+        let air = Air::new(0, 0, 18, false, 0);
         assert_eq!(air.reserve(1).slots, 1);
         assert_eq!(air.reserve(2).slots, 2);
     }
@@ -189,7 +223,8 @@ mod tests {
     #[test]
     fn the_smallest_number_of_slots() {
         for octets in 6..=127 {
-            let air = Air::new(5, 2, octets, octets % 2 == 0);
+            let acknowledged = octets % 2 == 0;
+            let air = Air::new(5, 2, octets, acknowledged, if acknowledged { octets / 2 % 8 } else { 0 });
             for rate in 1..200 {
                 let reservation = air.reserve(rate);
                 let holds = |slots: u64| slots * air.slot / air.exchange;
@@ -202,11 +237,24 @@ mod tests {
 
     #[test]
     fn latency_of_one_and_of_more_exchanges() {
-        let air = Air::new(0, 0, 26, false);
+        let air = Air::new(0, 0, 26, false, 0);
         let one = air.reserve(1);
         assert_eq!((one.slots, one.frames, air.latency(&one)), (2, 1, 1_064));
-        let air = Air::new(8, 4, 26, false);
+        let air = Air::new(8, 4, 26, false, 0);
         let nine = air.reserve(1);
         assert_eq!((nine.slots, nine.frames, air.latency(&nine)), (1, 9, 245_032));
+    }
+
+    /// BI = 245,760, S = 960, M = 26 acknowledged. With LOSS 1 an exchange lasts 296 and a slot holds 3: T = BI − 296.
+    /// With LOSS 7 it lasts 1,244 and takes two slots: T = BI + 1,244.
+    #[test]
+    fn latency_with_failed_tries() {
+        let link = |loss| {
+            let air = Air::new(8, 4, 26, true, loss);
+            let link = air.reserve(1);
+            (link.slots, link.frames, air.latency(&link))
+        };
+        assert_eq!(link(1), (1, 3, 245_464));
+        assert_eq!(link(7), (2, 1, 247_004));
     }
 }

@@ -1,10 +1,12 @@
 //! A second implementation of the planner that document 01 ("Cluster-tree reservation planner for battery radio
-//! sensors") sets out, with the reasons of request E1 of document 02, the beacon's time of request E2 and the surveyed
-//! trees of request E3. It was written from the words of those documents alone, so that another implementation can be
-//! compared with it; only the phrases of the reasons and the arguments of program `plan_tree`, which document 02 leaves
-//! open, were given. Words such as BI, S, X, L, k, m and T are those of document 01, and g is that of request E2.
+//! sensors") sets out, with the reasons of request E1 of document 02, the beacon's time of request E2, the surveyed
+//! trees of request E3 and the failed tries of request E5. It was written from the words of those documents alone, so
+//! that another implementation can be compared with it; only the phrases of the reasons and the arguments of program
+//! `plan_tree`, which document 02 leaves open, were given. Words such as BI, S, X, L, k, m and T are those of document
+//! 01, and g is that of request E2.
 
 mod air;
+mod heading;
 pub mod lists;
 mod reason;
 pub mod rows;
@@ -13,13 +15,14 @@ mod survey;
 mod text;
 mod tree;
 
+pub use heading::{Heading, LOSS_NAMES, NAMES};
 pub use reason::{line_of, read_reason, tree_line_of, whole_line, Phrase, PLANNED, TREE_PLANNED};
 pub use settings::Settings;
 pub use survey::{
     plan_tree, plan_tree_checking, tree_program, write_tree_plan, Beside, Network, NodeLine, Superframe, TreeLink,
     TreeOutcome, TreePlan, LIST_NAMES, MOST_NODES,
 };
-pub use text::{explanations, program, write_plan, INPUT_LIMIT, NAMES};
+pub use text::{explanations, program, write_plan, INPUT_LIMIT};
 pub use tree::{reservable, reservations, Kind, Line, Plan};
 
 /// A refusal: its number in the table of document 01 ("Rows of settings") or in document 02, its place, and what its
@@ -49,9 +52,10 @@ impl Refusal {
 /// What planning a row gives: its plan, or the first condition that failed.
 pub type Outcome = Result<Plan, Refusal>;
 
-/// Plans a line of values, given without its LF: conditions 2 to 7 in the order of the table.
-pub fn plan_row(row: &[u8]) -> Outcome {
-    plan_row_counting(row, reservable)
+/// Plans a line of values, given without its LF, under one of the two name lines: conditions 2 to 7 in the order of the
+/// table.
+pub fn plan_row(heading: Heading, row: &[u8]) -> Outcome {
+    plan_row_counting(heading, row, reservable)
 }
 
 /// Plans a line of values under a name line, both given without their LF: conditions 1 to 7.
@@ -62,11 +66,10 @@ pub fn plan_named_row(names: &[u8], row: &[u8]) -> Outcome {
 /// Plans like `plan_named_row`, but with this count of the slots that a router at a depth may reserve. It is for tests
 /// that want a planner with a wrong count.
 pub fn plan_named_row_counting(names: &[u8], row: &[u8], count: impl Fn(&Settings, usize) -> u64) -> Outcome {
-    text::check_names(names)?;
-    plan_row_counting(row, count)
+    plan_row_counting(heading::read_names(names)?, row, count)
 }
 
-fn plan_row_counting(row: &[u8], count: impl Fn(&Settings, usize) -> u64) -> Outcome {
-    let settings = settings::read(row)?;
+fn plan_row_counting(heading: Heading, row: &[u8], count: impl Fn(&Settings, usize) -> u64) -> Outcome {
+    let settings = settings::read(heading, row)?;
     Ok(tree::reserve_counting(&settings, count)?.plan())
 }

@@ -6,7 +6,7 @@ mod reading;
 
 pub use reading::read_reason;
 
-use crate::{Outcome, Refusal, TreeOutcome, NAMES};
+use crate::{Outcome, Refusal, TreeOutcome, LOSS_NAMES};
 
 /// The line of a row that is not refused.
 pub const PLANNED: &str = "The row is planned.";
@@ -37,6 +37,8 @@ pub enum Phrase {
     SinkOnOneBranch,
     /// 4 at DATA.
     FrameTooLong,
+    /// 4 at LOSS.
+    LossWithoutAck,
     /// 5.
     Reservations,
     /// 6.
@@ -70,7 +72,7 @@ struct Parts {
 
 impl Phrase {
     /// Those that rows and programs for rows can get. Surveyed trees share some of them: 3, 4 and 6.
-    pub const OF_ROWS: [Phrase; 15] = [
+    pub const OF_ROWS: [Phrase; 16] = [
         Phrase::Names,
         Phrase::Value,
         Phrase::TextAfter,
@@ -81,6 +83,7 @@ impl Phrase {
         Phrase::SinkTooDeep,
         Phrase::SinkOnOneBranch,
         Phrase::FrameTooLong,
+        Phrase::LossWithoutAck,
         Phrase::Reservations,
         Phrase::Routers,
         Phrase::Slots,
@@ -124,6 +127,9 @@ impl Phrase {
             }
             Phrase::FrameTooLong => {
                 of(4, 11, "Values are at odds at DATA, which with HEAD may not be above 127: HEAD is # and DATA is #.")
+            }
+            Phrase::LossWithoutAck => {
+                of(4, 13, "Values are at odds at LOSS, which is 0 where ACK is 0: LOSS is # and ACK is #.")
             }
             Phrase::Reservations => of(5, 0, "A router would have more than 7 reservations: NE is # and NR is #."),
             Phrase::Routers => {
@@ -184,16 +190,22 @@ pub fn whole_line(number: u32, place: u32) -> Option<Phrase> {
 /// The name of a column, or its number where it is none of those that have a name.
 fn column_name(column: u32) -> String {
     let index = (column as usize).checked_sub(1);
-    index.and_then(|index| NAMES.split(' ').nth(index)).map_or_else(|| column.to_string(), str::to_string)
+    index.and_then(|index| LOSS_NAMES.split(' ').nth(index)).map_or_else(|| column.to_string(), str::to_string)
 }
 
 #[cfg(test)]
 mod tests {
     use super::*;
-    use crate::{plan_named_row, plan_row};
+    use crate::{plan_named_row, plan_row, Heading, NAMES};
 
+    /// Under 12 names.
     fn line(row: &str) -> String {
-        line_of(&plan_row(row.as_bytes()))
+        line_of(&plan_row(Heading::WithoutLoss, row.as_bytes()))
+    }
+
+    /// Under 13 names.
+    fn loss_line(row: &str) -> String {
+        line_of(&plan_row(Heading::WithLoss, row.as_bytes()))
     }
 
     #[test]
@@ -207,15 +219,20 @@ mod tests {
         assert_eq!(line_of(&outcome), "The line of names differs or is missing.");
     }
 
+    const ROW: [&str; 13] = ["8", "4", "1", "2", "1", "0", "0", "1", "1", "19", "7", "0", "0"];
+
     #[test]
     fn number_2_at_every_column() {
-        let row = ["8", "4", "1", "2", "1", "0", "0", "1", "1", "19", "7", "0"];
-        for (column, name) in NAMES.split(' ').enumerate() {
+        for (column, name) in LOSS_NAMES.split(' ').enumerate() {
             let expected = format!("The value of {name} is unreadable or missing.");
-            let mut unreadable = row;
+            let mut unreadable = ROW;
             unreadable[column] = "x";
-            assert_eq!(line(&unreadable.join(" ")), expected);
-            assert_eq!(line(&row[..column].join(" ")), expected);
+            assert_eq!(loss_line(&unreadable.join(" ")), expected);
+            assert_eq!(loss_line(&ROW[..column].join(" ")), expected);
+            if NAMES.contains(name) {
+                assert_eq!(line(&unreadable[..12].join(" ")), expected);
+                assert_eq!(line(&ROW[..column].join(" ")), expected);
+            }
         }
     }
 
@@ -224,21 +241,25 @@ mod tests {
         let expected = "There is text after the last value, where column 13 would be.";
         assert_eq!(line("8 4 1 2 1 0 0 1 1 19 7 0 "), expected);
         assert_eq!(line("8 4 1 2 1 0 0 1 1 19 7 0 5"), expected);
+        let expected = "There is text after the last value, where column 14 would be.";
+        assert_eq!(loss_line("8 4 1 2 1 0 0 1 1 19 7 0 5 "), expected);
+        assert_eq!(loss_line("8 4 1 2 1 0 0 1 1 19 7 0 0 5"), expected);
     }
 
     #[test]
     fn number_3_at_every_column() {
-        let row = ["8", "4", "1", "2", "1", "0", "0", "1", "1", "19", "7", "0"];
-        for (column, name) in NAMES.split(' ').enumerate() {
+        for (column, name) in LOSS_NAMES.split(' ').enumerate() {
             for value in ["4096", "9999"] {
-                let mut outside = row;
+                let mut outside = ROW;
                 outside[column] = value;
-                assert_eq!(
-                    line(&outside.join(" ")),
-                    format!("The value of {name} is outside its range: it is {value}.")
-                );
+                let expected = format!("The value of {name} is outside its range: it is {value}.");
+                assert_eq!(loss_line(&outside.join(" ")), expected);
+                if NAMES.contains(name) {
+                    assert_eq!(line(&outside[..12].join(" ")), expected);
+                }
             }
         }
+        assert_eq!(loss_line("8 4 1 2 1 0 0 1 1 19 7 1 8"), "The value of LOSS is outside its range: it is 8.");
         assert_eq!(line("8 4 1 2 1 0 0 0 1 19 7 0"), "The value of BURST is outside its range: it is 0.");
     }
 
@@ -278,6 +299,14 @@ mod tests {
     fn number_4_at_data() {
         let expected = "Values are at odds at DATA, which with HEAD may not be above 127: HEAD is 120 and DATA is 8.";
         assert_eq!(line("8 4 1 2 1 0 0 1 1 120 8 0"), expected);
+    }
+
+    #[test]
+    fn number_4_at_loss() {
+        let expected = "Values are at odds at LOSS, which is 0 where ACK is 0: LOSS is 3 and ACK is 0.";
+        assert_eq!(loss_line("8 4 1 2 1 0 0 1 1 19 7 0 3"), expected);
+        let expected = "Values are at odds at DATA, which with HEAD may not be above 127: HEAD is 120 and DATA is 8.";
+        assert_eq!(loss_line("8 4 1 2 1 0 0 1 1 120 8 0 3"), expected);
     }
 
     #[test]
@@ -327,7 +356,8 @@ mod tests {
 
     #[test]
     fn columns_without_a_name() {
-        assert_eq!([0, 1, 3, 12, 13, u32::MAX].map(column_name), ["0", "BO", "H", "ACK", "13", "4294967295"]);
+        let columns = [0, 1, 3, 12, 13, 14, u32::MAX];
+        assert_eq!(columns.map(column_name), ["0", "BO", "H", "ACK", "LOSS", "14", "4294967295"]);
     }
 
     #[test]

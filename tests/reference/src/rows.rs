@@ -1,6 +1,6 @@
 //! Rows, name lines and whole inputs for tests, drawn at random from a seed. They are of all kinds that document 01 can
-//! answer: plans of every shape, every refusal at every place, values on both sides of each limit, and damaged text.
-//! Damaged lines of refusals are drawn as well.
+//! answer, under both name lines: plans of every shape, every refusal at every place, values on both sides of each
+//! limit, and damaged text. Damaged lines of refusals are drawn as well.
 
 mod broken;
 mod inputs;
@@ -10,17 +10,20 @@ mod planned;
 mod reach;
 mod refused;
 mod rng;
+mod twins;
 
 pub(crate) use broken::{broken, noise};
-pub use inputs::{names, text};
+pub use inputs::{named_row, text};
 pub use lines::{damaged_line, damaged_tree_line, made_up_line, made_up_tree_line};
 pub use listed::{listed, Answered, Listed, DEEPEST_SINK};
 pub(crate) use planned::{draw_octets, largest};
 pub use reach::{plannable_shapes, reachable_refusals, Seen};
 pub use rng::Rng;
+pub use twins::{twin_rows, twin_texts};
 
-use crate::settings::{settle, Values, COLUMNS};
+use crate::settings::{settle, Values};
 use crate::tree::{excess, reserve};
+use crate::Heading;
 
 // Columns by name, as indexes of `Values`.
 const BO: usize = 0;
@@ -35,39 +38,43 @@ const RATE: usize = 8;
 const HEAD: usize = 9;
 const DATA: usize = 10;
 const ACK: usize = 11;
+const LOSS: usize = 12;
 
 /// The largest BO and SO.
 const MOST_ORDER: u64 = 14;
+/// The largest LOSS.
+const MOST_LOSS: u64 = 7;
 
-/// A line of values without its LF, or bytes that are none.
-pub fn row(rng: &mut Rng) -> Vec<u8> {
+/// A line of values for one of the name lines, without its LF, or bytes that are none.
+pub fn row(rng: &mut Rng, heading: Heading) -> Vec<u8> {
     match rng.below(100) {
-        0..=82 => written(&values(rng)),
+        0..=82 => written(heading, &values(rng, heading)),
         83..=96 => {
-            let whole = written(&values(rng));
+            let whole = written(heading, &values(rng, heading));
             broken::broken(rng, whole)
         }
         _ => broken::noise(rng),
     }
 }
 
-/// Values that can all be read.
-fn values(rng: &mut Rng) -> Values {
+/// Values that can all be read; LOSS is 0 under 12 names.
+fn values(rng: &mut Rng, heading: Heading) -> Values {
     match rng.below(83) {
-        0..=34 => planned::planned(rng),
-        35..=43 => planned::at_slot_edge(rng),
-        44..=49 => planned::at_beacon_edge(rng),
+        0..=34 => planned::planned(rng, heading),
+        35..=43 => planned::at_slot_edge(rng, heading),
+        44..=49 => planned::at_beacon_edge(rng, heading),
         50..=53 => refused::overfull(rng),
-        54..=61 => refused::out_of_range(rng),
-        62..=69 => refused::at_odds(rng),
-        70..=73 => refused::at_reservation_edge(rng),
-        74..=78 => refused::at_router_edge(rng),
-        _ => refused::anything_in_range(rng),
+        54..=61 => refused::out_of_range(rng, heading),
+        62..=69 => refused::at_odds(rng, heading),
+        70..=73 => refused::at_reservation_edge(rng, heading),
+        74..=78 => refused::at_router_edge(rng, heading),
+        _ => refused::anything_in_range(rng, heading),
     }
 }
 
-fn written(values: &Values) -> Vec<u8> {
-    values.map(|value| value.to_string()).join(" ").into_bytes()
+/// The values that the name line has names for.
+fn written(heading: Heading, values: &Values) -> Vec<u8> {
+    values.map(|value| value.to_string())[..heading.columns()].join(" ").into_bytes()
 }
 
 /// These values are planned.
@@ -93,6 +100,15 @@ pub(crate) fn draw_burst(rng: &mut Rng) -> u64 {
     }
 }
 
+/// ACK and a LOSS that fits it. Under 13 names LOSS is mostly above 0, as only few trees have room for it.
+pub(crate) fn draw_tries(rng: &mut Rng, heading: Heading) -> [u64; 2] {
+    match (heading, rng.below(8)) {
+        (Heading::WithoutLoss, drawn) => [drawn % 2, 0],
+        (Heading::WithLoss, drawn @ (0 | 1)) => [drawn, 0],
+        (Heading::WithLoss, _) => [1, rng.range(1, MOST_LOSS)],
+    }
+}
+
 /// A frame of this many octets (6 to 248), cut anywhere into HEAD and DATA.
 fn set_octets(rng: &mut Rng, values: &mut Values, octets: u64) {
     values[HEAD] = rng.range(5.max(octets.saturating_sub(122)), 126.min(octets - 1));
@@ -107,7 +123,9 @@ mod tests {
 
     #[test]
     fn written_values() {
-        assert_eq!(written(&[8, 4, 1, 2, 1, 0, 0, 1, 1, 19, 7, 0]), b"8 4 1 2 1 0 0 1 1 19 7 0");
+        let values = [8, 4, 1, 2, 1, 0, 0, 1, 1, 19, 7, 0, 3];
+        assert_eq!(written(Heading::WithoutLoss, &values), b"8 4 1 2 1 0 0 1 1 19 7 0");
+        assert_eq!(written(Heading::WithLoss, &values), b"8 4 1 2 1 0 0 1 1 19 7 0 3");
     }
 
     #[test]
@@ -123,7 +141,7 @@ mod tests {
     fn the_same_seed_draws_the_same() {
         let drawn = |seed| {
             let mut rng = Rng::new(seed);
-            (names(&mut rng), row(&mut rng), text(&mut rng))
+            (named_row(&mut rng), row(&mut rng, Heading::WithLoss), text(&mut rng))
         };
         assert_eq!(drawn(5), drawn(5));
         assert_ne!(drawn(5), drawn(6));
@@ -134,24 +152,52 @@ mod tests {
         let mut rng = Rng::new(1);
         let mut seen = Seen::default();
         for _ in 0..200_000 {
-            seen.note(&crate::plan_row(&row(&mut rng)));
+            let (names, row) = named_row(&mut rng);
+            seen.note(&names, &row, &crate::plan_named_row(&names, &row));
         }
         assert_eq!(seen.missing(), Vec::<String>::new());
         assert_eq!(seen.unexpected(), Vec::<String>::new());
     }
 
-    /// Both sides of every limit, and both parts of condition 4 at places 4 and 7.
+    /// Both sides of every limit, and both parts of condition 4 at places 4 and 7, under either name line.
     #[test]
     fn both_sides_of_every_limit_are_drawn() {
-        let mut rng = Rng::new(2);
-        let mut counts = [0; 14];
+        for heading in Heading::BOTH {
+            let mut rng = Rng::new(2);
+            let mut counts = [0; 14];
+            for _ in 0..50_000 {
+                let drawn = values(&mut rng, heading);
+                for (count, met) in counts.iter_mut().zip(limits(&drawn)) {
+                    *count += u32::from(met);
+                }
+            }
+            assert!(counts.iter().all(|&count| count >= 50), "{heading:?} {counts:?}");
+        }
+    }
+
+    /// Under 13 names each LOSS has rows whose fullest router uses just the slots that it may reserve, and one more;
+    /// and values at odds at LOSS alone, and at DATA as well, which comes before.
+    #[test]
+    fn both_sides_of_every_limit_are_drawn_with_loss() {
+        let mut rng = Rng::new(15);
+        let mut counts = BTreeMap::new();
         for _ in 0..50_000 {
-            let drawn = values(&mut rng);
-            for (count, met) in counts.iter_mut().zip(limits(&drawn)) {
-                *count += u32::from(met);
+            let drawn = values(&mut rng, Heading::WithLoss);
+            let of = |name: &str| (drawn[LOSS], name.to_string());
+            match settle(&drawn) {
+                Ok(settings) if reserve(&settings).err().is_none_or(|refusal| refusal.number == 7) => {
+                    *counts.entry(of(&excess(&settings).to_string())).or_insert(0) += 1;
+                }
+                Err(refusal) if refusal.number == 4 && drawn[LOSS] > 0 && drawn[ACK] == 0 => {
+                    *counts.entry(of(&format!("at odds at {}", refusal.place))).or_insert(0) += 1;
+                }
+                _ => (),
             }
         }
-        assert!(counts.iter().all(|&count| count >= 50), "{counts:?}");
+        let count = |loss: u64, name: &str| counts.get(&(loss, name.to_string())).copied().unwrap_or(0);
+        assert!((0..=MOST_LOSS).all(|loss| count(loss, "0") >= 50 && count(loss, "1") >= 50), "{counts:?}");
+        assert!((1..=MOST_LOSS).all(|loss| count(loss, "at odds at 13") >= 20), "{counts:?}");
+        assert!((1..=MOST_LOSS).map(|loss| count(loss, "at odds at 11")).sum::<u32>() >= 20, "{counts:?}");
     }
 
     /// Rows whose fullest router uses just the slots that it may reserve, and one more: for SO 0 to 3, at which its
@@ -162,7 +208,7 @@ mod tests {
         let mut rng = Rng::new(12);
         let mut counts = BTreeMap::new();
         for _ in 0..50_000 {
-            let drawn = values(&mut rng);
+            let drawn = values(&mut rng, Heading::WithoutLoss);
             let reached = |settings: &Settings| reserve(settings).err().is_none_or(|refusal| refusal.number == 7);
             let excess = settle(&drawn).ok().filter(reached).map(|settings| excess(&settings));
             *counts.entry((drawn[SO].min(4), drawn[NE] == 0, excess)).or_insert(0) += 1;

@@ -1,5 +1,5 @@
-//! Request E3 of document 02: plans of surveyed trees. A list has the nodes, numbered from 1; five settings and the
-//! sink's node are given beside it.
+//! Request E3 of document 02: plans of surveyed trees. A list has the nodes, numbered from 1; five settings, the sink's
+//! node and LOSS (request E5) are given beside it.
 //!
 //! Inside, a node is the index of its line, counted from 0; what is printed or answered counts from 1.
 
@@ -31,6 +31,8 @@ pub struct Beside {
     pub ack: u32,
     /// The number of the sink's node.
     pub sink: u32,
+    /// LOSS.
+    pub loss: u32,
 }
 
 /// What planning a surveyed tree gives: its plan, or the first condition that failed.
@@ -59,9 +61,9 @@ pub fn plan_tree_checking(
 /// "Then 3 and 4 for the settings beside, at document 01's columns": the refusals of a row that has these settings and
 /// keeps both conditions in every other column.
 fn settle(beside: &Beside) -> Result<Settings, Refusal> {
-    let [bo, so, head, data, ack] =
-        [beside.beacon_order, beside.superframe_order, beside.head, beside.data, beside.ack].map(u64::from);
-    settings::settle(&[bo, so, 0, 0, 1, 0, 0, 1, 1, head, data, ack])
+    let Beside { beacon_order, superframe_order, head, data, ack, loss, .. } = *beside;
+    let [bo, so, head, data, ack, loss] = [beacon_order, superframe_order, head, data, ack, loss].map(u64::from);
+    settings::settle(&[bo, so, 0, 0, 1, 0, 0, 1, 1, head, data, ack, loss])
 }
 
 #[cfg(test)]
@@ -70,9 +72,10 @@ mod tests {
     use crate::{tree_line_of, Phrase};
 
     const LIST: &str = "NODE PARENT BURST RATE\n1 0 0 0\n2 1 0 0\n3 2 1 1\n";
-    const GOOD: Beside = Beside { beacon_order: 8, superframe_order: 4, head: 19, data: 7, ack: 0, sink: 1 };
+    const GOOD: Beside = Beside { beacon_order: 8, superframe_order: 4, head: 19, data: 7, ack: 0, sink: 1, loss: 0 };
     /// Outside every range.
-    const BAD: Beside = Beside { beacon_order: 15, superframe_order: 15, head: 127, data: 123, ack: 2, sink: 3 };
+    const BAD: Beside =
+        Beside { beacon_order: 15, superframe_order: 15, head: 127, data: 123, ack: 2, sink: 3, loss: 8 };
 
     fn refusal(list: &str, beside: Beside) -> Option<(u32, u32)> {
         plan_tree(list.as_bytes(), &beside).err().map(|refusal| (refusal.number, refusal.place))
@@ -101,11 +104,15 @@ mod tests {
         assert_eq!(refusal(LIST, beside), Some((3, 11)));
         beside.data = 2;
         assert_eq!(refusal(LIST, beside), Some((3, 12)));
-        beside.ack = 1;
+        beside.ack = 0;
+        assert_eq!(refusal(LIST, beside), Some((3, 13)));
+        beside.loss = 7;
         assert_eq!(refusal(LIST, beside), Some((4, 2)));
         beside.beacon_order = 4;
         assert_eq!(refusal(LIST, beside), Some((4, 11)));
         beside.data = 1;
+        assert_eq!(refusal(LIST, beside), Some((4, 13)));
+        beside.ack = 1;
         assert_eq!(refusal(LIST, beside), Some((6, 0)));
         beside.beacon_order = 5;
         assert_eq!(refusal(LIST, beside), None);
@@ -118,15 +125,16 @@ mod tests {
             change(&mut beside, value);
             refusal(LIST, beside)
         };
-        let changes: [fn(&mut Beside, u32); 5] = [
+        let changes: [fn(&mut Beside, u32); 6] = [
             |beside, value| (beside.beacon_order, beside.superframe_order) = (value, 0),
             |beside, value| (beside.beacon_order, beside.superframe_order) = (14, value),
             |beside, value| (beside.head, beside.data) = (value, 1),
             |beside, value| (beside.head, beside.data) = (5, value),
             |beside, value| beside.ack = value,
+            |beside, value| (beside.ack, beside.loss) = (1, value),
         ];
         // Two routers need BO above SO.
-        let columns = [(1, 1, 14), (2, 0, 13), (10, 5, 126), (11, 1, 122), (12, 0, 1)];
+        let columns = [(1, 1, 14), (2, 0, 13), (10, 5, 126), (11, 1, 122), (12, 0, 1), (13, 0, 7)];
         for (change, (column, low, high)) in changes.into_iter().zip(columns) {
             assert_eq!((at(change, low), at(change, high)), (None, None), "{column}");
             for outside in [15_u32.max(high + 1), 1 << 16, 1 << 31, u32::MAX] {
@@ -135,6 +143,10 @@ mod tests {
         }
         assert_eq!(refusal(LIST, Beside { head: 4, ..GOOD }), Some((3, 10)));
         assert_eq!(refusal(LIST, Beside { data: 0, ..GOOD }), Some((3, 11)));
+        for loss in 1..=7 {
+            assert_eq!(refusal(LIST, Beside { loss, ..GOOD }), Some((4, 13)));
+        }
+        assert_eq!(refusal(LIST, Beside { loss: 8, ..GOOD }), Some((3, 13)));
     }
 
     /// Each line that a surveyed tree can get, with its values.
@@ -144,6 +156,12 @@ mod tests {
         assert_eq!(line(&LIST.replace("3 2", "3 9"), GOOD), "Line 3 of the node list breaks a rule or is missing.");
         let ack = Beside { ack: u32::MAX, ..GOOD };
         assert_eq!(line(LIST, ack), "The value of ACK is outside its range: it is 4294967295.");
+        let loss = Beside { loss: 8, ..GOOD };
+        assert_eq!(line(LIST, loss), "The value of LOSS is outside its range: it is 8.");
+        assert_eq!(
+            line(LIST, Beside { loss: 3, ..GOOD }),
+            "Values are at odds at LOSS, which is 0 where ACK is 0: LOSS is 3 and ACK is 0."
+        );
         assert_eq!(
             line(LIST, Beside { beacon_order: 4, superframe_order: 8, ..GOOD }),
             "Values are at odds at SO, which may not be above BO: SO is 8 and BO is 4."

@@ -1,23 +1,12 @@
-//! Document 01, "The printed plan": the text of a plan, the programs' whole output, and conditions 1 and 9.
+//! Document 01, "The printed plan": the text of a plan, the programs' whole output, and condition 9.
 
-use crate::{line_of, plan_row, Kind, Line, Outcome, Phrase, Plan, Refusal};
-
-/// The line of names, without its LF.
-pub const NAMES: &str = "BO SO H NR NE OWN SINK BURST RATE HEAD DATA ACK";
+use crate::heading::read_names;
+use crate::{line_of, plan_row, Heading, Kind, Line, Outcome, Phrase, Plan, Refusal};
 
 /// The most bytes of input that a program takes.
 pub const INPUT_LIMIT: usize = 65_536;
 
 const HEADER: &[u8] = b"KIND DEPTH RATE BURST SLOTS FRAMES LATENCY BUFFER DELAY\n";
-
-/// Condition 1.
-pub fn check_names(names: &[u8]) -> Result<(), Refusal> {
-    if names == NAMES.as_bytes() {
-        Ok(())
-    } else {
-        Err(Refusal::without_values(Phrase::Names, 0))
-    }
-}
 
 /// What program `plan` prints for this standard input.
 pub fn program(input: &[u8]) -> Vec<u8> {
@@ -44,18 +33,18 @@ fn printed(input: &[u8], write: impl Fn(&Outcome, &mut Vec<u8>)) -> Vec<u8> {
         return out;
     }
     let (names, rest) = cut_line(input);
-    match check_names(names) {
-        Ok(()) => write_rows(rest, &mut out, write),
+    match read_names(names) {
+        Ok(heading) => write_rows(heading, rest, &mut out, write),
         Err(refusal) => write(&Err(refusal), &mut out),
     }
     out
 }
 
 /// The answers to the rows that follow the name line. An empty rest is no row; an empty line with its LF is one.
-fn write_rows(mut rest: &[u8], out: &mut Vec<u8>, write: impl Fn(&Outcome, &mut Vec<u8>)) {
+fn write_rows(heading: Heading, mut rest: &[u8], out: &mut Vec<u8>, write: impl Fn(&Outcome, &mut Vec<u8>)) {
     while !rest.is_empty() {
         let (row, after) = cut_line(rest);
-        write(&plan_row(row), out);
+        write(&plan_row(heading, row), out);
         rest = after;
     }
 }
@@ -118,6 +107,7 @@ pub fn write_figure(mut figure: u64, out: &mut Vec<u8>) {
 #[cfg(test)]
 mod tests {
     use super::*;
+    use crate::{LOSS_NAMES, NAMES};
 
     const P1: &str = "8 4 1 2 1 0 0 1 1 19 7 0";
     const P1_PLAN: &str = "KIND DEPTH RATE BURST SLOTS FRAMES LATENCY BUFFER DELAY\n\
@@ -135,15 +125,62 @@ mod tests {
         String::from_utf8(program(input.as_bytes())).unwrap()
     }
 
-    /// What is printed after the right name line and its LF.
+    /// What is printed after the line of 12 names and its LF.
     fn after_names(rest: &str) -> String {
         printed(&format!("{NAMES}\n{rest}"))
+    }
+
+    /// What is printed after the line of 13 names and its LF.
+    fn after_loss_names(rest: &str) -> String {
+        printed(&format!("{LOSS_NAMES}\n{rest}"))
     }
 
     #[test]
     fn p1_and_p2() {
         assert_eq!(after_names(P1), P1_PLAN);
         assert_eq!(after_names(P2), P2_PLAN);
+    }
+
+    /// "A name line of 12 names still stands for LOSS 0": under 13 names the same rows with LOSS 0 have the same plans.
+    #[test]
+    fn p1_and_p2_with_loss_0() {
+        assert_eq!(after_loss_names(&format!("{P1} 0\n{P2} 0\n")), [P1_PLAN, P2_PLAN].concat());
+    }
+
+    /// P1 acknowledged. X = 12 + 52 + 34 + 40 = 138. With LOSS 1 an exchange lasts 138 + 158 = 296, a slot of 960 holds
+    /// 3 of them and T = 245,760 − 296 = 245,464. An end node's link gets 245,760 and leaves 491,224, delay 81,920 + T;
+    /// a router's gets 491,224 and leaves 736,688, delay 163,742 + T. The sink gets 491,224 + 2 × 736,688.
+    #[test]
+    fn p1_with_loss_1() {
+        let plan = "KIND DEPTH RATE BURST SLOTS FRAMES LATENCY BUFFER DELAY\n\
+                    E 0 1 245760 1 3 245464 2 327384\n\
+                    U 1 1 491224 1 3 245464 3 409206\n\
+                    S 0 3 1964600 0 0 0 8 736590\n";
+        assert_eq!(after_loss_names("8 4 1 2 1 0 0 1 1 19 7 1 1\n"), plan);
+    }
+
+    /// With LOSS 7 an exchange lasts 138 + 7 × 158 = 1,244, so that a link has 2 slots for one of them and
+    /// T = 245,760 + 1,244 = 247,004. Each link's burst and T add up to its delay and to what leaves it: 492,764, and
+    /// 739,768 for a router. The sink gets 492,764 + 2 × 739,768.
+    #[test]
+    fn p1_with_loss_7() {
+        let plan = "KIND DEPTH RATE BURST SLOTS FRAMES LATENCY BUFFER DELAY\n\
+                    E 0 1 245760 2 1 247004 3 492764\n\
+                    U 1 1 492764 2 1 247004 4 739768\n\
+                    S 0 3 1972300 0 0 0 9 1232532\n";
+        assert_eq!(after_loss_names("8 4 1 2 1 0 0 1 1 19 7 1 7\n"), plan);
+    }
+
+    #[test]
+    fn refusals_of_loss() {
+        let acknowledged = "8 4 1 2 1 0 0 1 1 19 7 1";
+        assert_eq!(
+            after_names(&format!("{acknowledged} 1\n{acknowledged} x\n{acknowledged} 1 \n")),
+            "R 2 13\n".repeat(3)
+        );
+        let rows = ["", " x", " 1 ", " 1 1", " 8"].map(|rest| format!("{acknowledged}{rest}"));
+        assert_eq!(after_loss_names(&rows.join("\n")), "R 2 13\nR 2 13\nR 2 14\nR 2 14\nR 3 13\n");
+        assert_eq!(after_loss_names(&format!("{P1} 1\n8 4 1 2 1 0 0 1 1 120 8 0 1")), "R 4 13\nR 4 11\n");
     }
 
     #[test]
@@ -157,6 +194,8 @@ mod tests {
         assert_eq!(printed("\n"), "R 1 0\n");
         assert_eq!(printed(NAMES), "");
         assert_eq!(printed(&format!("{NAMES}\n")), "");
+        assert_eq!((printed(LOSS_NAMES), printed(&format!("{LOSS_NAMES}\n"))), (String::new(), String::new()));
+        assert_eq!(printed(&format!("{LOSS_NAMES} \n{P1} 0\n")), "R 1 0\n");
         assert_eq!(printed(&format!("{NAMES} \n{P1}\n")), "R 1 0\n");
         assert_eq!(printed(&format!("{NAMES}\r\n{P1}\n")), "R 1 0\n");
         assert_eq!(printed(&format!("{}\n{P1}\n", NAMES.to_lowercase())), "R 1 0\n");
@@ -213,6 +252,19 @@ mod tests {
                         A router would have more than 7 reservations: NE is 4 and NR is 4.\n";
         assert_eq!(explained(&format!("{NAMES}\n{}\n", rows.join("\n"))), expected);
         assert_eq!(explained(&format!("{NAMES}\n{}", rows.join("\n"))), expected);
+    }
+
+    #[test]
+    fn explanations_of_loss() {
+        let rows = [" 3", " 1 7", " 1 8", " 1", " 1 1 "].map(|rest| format!("8 4 1 2 1 0 0 1 1 19 7{rest}"));
+        let rows = format!("8 4 1 2 1 0 0 1 1 19 7 0 3\n{}\n", rows.join("\n"));
+        let expected = "Values are at odds at LOSS, which is 0 where ACK is 0: LOSS is 3 and ACK is 0.\n\
+                        The value of LOSS is unreadable or missing.\n\
+                        The row is planned.\n\
+                        The value of LOSS is outside its range: it is 8.\n\
+                        The value of LOSS is unreadable or missing.\n\
+                        There is text after the last value, where column 14 would be.\n";
+        assert_eq!(explained(&format!("{LOSS_NAMES}\n{rows}")), expected);
     }
 
     #[test]

@@ -98,7 +98,8 @@ impl Tree<'_> {
     /// burst is formed. The tree has at most 2^14 routers (condition 6) and so at most 2^17 sensors, which puts every
     /// rate below 2^29.
     fn new(settings: &Settings) -> Tree<'_> {
-        let air = Air::new(settings.beacon_order, settings.superframe_order, settings.octets, settings.acknowledged);
+        let Settings { beacon_order, superframe_order, octets, acknowledged, loss, .. } = *settings;
+        let air = Air::new(beacon_order, superframe_order, octets, acknowledged, loss);
         let end_node = air.reserve(settings.rate);
         let none = Reservation::default();
         let mut tree = Tree { settings, air, end_node, up: [none; HIGHEST + 1], down: [none; HIGHEST] };
@@ -254,24 +255,34 @@ pub fn excess(settings: &Settings) -> i64 {
 #[cfg(test)]
 mod tests {
     use super::*;
-    use crate::plan_row;
+    use crate::{plan_row, Heading, Outcome};
+
+    /// Under the name line that has as many names as the row has values.
+    fn heading(row: &str) -> Heading {
+        let values = row.split(' ').count();
+        Heading::BOTH.into_iter().find(|heading| heading.columns() == values).unwrap()
+    }
+
+    fn plan(row: &str) -> Outcome {
+        plan_row(heading(row), row.as_bytes())
+    }
 
     fn lines(row: &str) -> Vec<Line> {
-        plan_row(row.as_bytes()).unwrap().lines
+        plan(row).unwrap().lines
     }
 
     fn refusal(row: &str) -> Option<(u32, u32)> {
-        plan_row(row.as_bytes()).err().map(|refusal| (refusal.number, refusal.place))
+        plan(row).err().map(|refusal| (refusal.number, refusal.place))
     }
 
     /// Place and values of a refusal with number 7.
     fn slots(row: &str) -> Option<(u32, [u64; 2])> {
-        let refusal = plan_row(row.as_bytes()).err().filter(|refusal| refusal.number == 7);
+        let refusal = plan(row).err().filter(|refusal| refusal.number == 7);
         refusal.map(|refusal| (refusal.place, refusal.values))
     }
 
     fn read(row: &str) -> Settings {
-        crate::settings::read(row.as_bytes()).ok().unwrap()
+        crate::settings::read(heading(row), row.as_bytes()).ok().unwrap()
     }
 
     #[test]
@@ -454,6 +465,28 @@ mod tests {
         let row = "0 0 0 0 0 1 0 255 4095 126 1 1";
         assert_eq!(refusal(row), None);
         assert_eq!((reservable(&read(row), 0), excess(&read(row))), (8, -8));
+    }
+
+    /// M = 6 acknowledged, RATE 1, one end node at SO 0: with LOSS 0 to 7 an exchange lasts 70, 160, 250, 340, 430,
+    /// 520, 610 and 700, which take 2, 3, 5, 6, 8, 9, 11 and 12 slots of 60. 7 of them may be reserved.
+    #[test]
+    fn slots_with_failed_tries() {
+        let row = |loss: u64| format!("0 0 0 0 1 0 0 1 1 5 1 1 {loss}");
+        let of_link = [0, 1, 2, 3].map(|loss| (lines(&row(loss))[0].slots, lines(&row(loss))[0].latency));
+        assert_eq!(of_link, [(2, 960 + 70), (3, 960 + 160), (5, 960 + 250), (6, 960 + 340)]);
+        assert_eq!([4, 5, 6, 7].map(|loss| slots(&row(loss)).unwrap().1), [[8, 7], [9, 7], [11, 7], [12, 7]]);
+    }
+
+    /// The most slots: a tree of 8,191 routers with 5 end nodes each and sensors of their own. Of the 49,146 sensors,
+    /// at 4,095 frames each, all but those of one of the root's two branches, 4,095 routers, send down from the root:
+    /// 24,576 × 4,095 frames of 2,860 symbols, with slots of 60. The other branch sends 24,570 × 4,095 up, and each of
+    /// 5 end nodes 4,095.
+    #[test]
+    fn slots_beyond_32_bits() {
+        let slots_for = |sensors: u64| (sensors * 4_095 * 2_860_u64).div_ceil(60);
+        let used = 5 * slots_for(1) + slots_for(24_570) + slots_for(24_576);
+        assert_eq!(slots("14 0 12 2 5 1 12 255 4095 126 1 1 7"), Some((0, [used, 7])));
+        assert!(used > 1 << 33, "{used}");
     }
 
     #[test]

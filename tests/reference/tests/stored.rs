@@ -1,6 +1,7 @@
-//! The stored inputs of tests/plan and tests/explain: the outputs stored for them are what this implementation prints.
+//! The stored inputs of tests/plan, tests/explain and tests/plan_tree: the outputs stored for them are what this
+//! implementation prints.
 
-use reference::{explanations, program};
+use reference::{explanations, program, tree_program};
 use std::fs;
 use std::path::{Path, PathBuf};
 
@@ -37,5 +38,18 @@ fn lines() {
     assert!(!own.is_empty() && own.iter().all(|(name, _)| shared.iter().all(|(other, _)| name != other)));
     for (name, input) in shared.into_iter().chain(own) {
         assert!(explanations(&input) == output("explain", &name), "{name}");
+    }
+}
+
+/// The arguments stand in a file of their own, on one line with spaces between; `''` is an empty one.
+#[test]
+fn trees() {
+    let inputs = inputs("plan_tree");
+    assert!(!inputs.is_empty());
+    for (name, input) in inputs {
+        let line = fs::read_to_string(folder("plan_tree").join(&name).with_extension("args")).unwrap();
+        let words = line.split_ascii_whitespace().map(|word| if word == "''" { "" } else { word });
+        let arguments: Vec<&[u8]> = words.map(str::as_bytes).collect();
+        assert!(tree_program(&arguments, &input) == output("plan_tree", &name), "{name}");
     }
 }

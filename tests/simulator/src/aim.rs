@@ -3,10 +3,11 @@
 //!
 //! For one link with m starts the worst symbol for a frame to come is that of the window's last
 //! start: it misses it, and the first frame is at the receiver BI − (m − 2) × X symbols later, which
-//! is the latency T of document 01. If the receiver's last start is in that very symbol, the same
-//! happens there. So the symbols are worked out from the sink outward: a node whose frames should
-//! come to its neighbour in symbol w has its first start in symbol w − X, or as soon after it as the
-//! window allows, and its own frames should come in the last start of the interval before.
+//! is the latency T of document 01 (X with failed tries, as everywhere here). If the receiver's last
+//! start is in that very symbol, the same happens there. So the symbols are worked out from the sink
+//! outward: a node whose frames should come to its neighbour in symbol w has its first start in
+//! symbol w − X, or as soon after it as the window allows, and its own frames should come in the last
+//! start of the interval before.
 
 use crate::air;
 use crate::chance::Chance;

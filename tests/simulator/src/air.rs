@@ -1,5 +1,5 @@
 //! Times and slot counts of a row (document 01, "Time on the air", with the beacon's time of request E2
-//! of document 02).
+//! and the failed tries of request E5 of document 02).
 //!
 //! All results are small: BI is at most 960 × 2^14, so u64 holds every product made here.
 
@@ -36,12 +36,27 @@ pub fn free_slots(row: &Row, reservations: u64) -> u64 {
     16 - (440 + beacon(reservations)).div_ceil(slot(row))
 }
 
-/// One exchange X in symbols.
-pub fn exchange(row: &Row) -> u64 {
+/// One try in symbols, with so many between the frame and the space behind it.
+fn one_try(row: &Row, between: u64) -> u64 {
     let octets = row.head + row.data;
-    let acknowledged = 34 * row.ack;
     let spacing = if octets <= 18 { 12 } else { 40 };
-    12 + 2 * octets + acknowledged + spacing
+    12 + 2 * octets + between + spacing
+}
+
+/// X, the try that succeeds: where frames are acknowledged, turnaround and acknowledgement take 34.
+pub fn good_try(row: &Row) -> u64 {
+    one_try(row, 34 * row.ack)
+}
+
+/// A try that fails: the acknowledgement is waited for, which takes 54 (request E5).
+pub fn failed_try(row: &Row) -> u64 {
+    one_try(row, 54)
+}
+
+/// One exchange in symbols: X + LOSS × (X + 20) (request E5), which all that was built on X goes by.
+pub fn exchange(row: &Row) -> u64 {
+    let x = good_try(row);
+    x + row.loss * (x + 20)
 }
 
 /// m, the exchanges that a reservation of `slots` slots holds.
@@ -67,6 +82,20 @@ mod tests {
         assert_eq!(frame(19, 0), 90);
         assert_eq!(frame(127, 0), 306);
         assert_eq!(frame(127, 1), 340);
+    }
+
+    /// As many failed tries as may be and the one that succeeds fill the exchange just up.
+    #[test]
+    fn failed_tries() {
+        let row = Row::read("0 0 0 0 1 0 0 1 1 5 1 1");
+        for octets in 6..=127 {
+            for loss in 0..=7 {
+                let row = Row { head: octets - 1, data: 1, loss, ..row };
+                assert_eq!(exchange(&row), loss * failed_try(&row) + good_try(&row));
+            }
+        }
+        let longest = Row { head: 126, data: 1, loss: 7, ..row };
+        assert_eq!((good_try(&longest), failed_try(&longest), exchange(&longest)), (340, 360, 2_860));
     }
 
     /// Request E2 works out 1 and 2 slots for contention at SO 3, and 8 and 9 at SO 0, without and with a

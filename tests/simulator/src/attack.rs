@@ -2,6 +2,7 @@
 
 use crate::aim::{self, Aim};
 use crate::chance::Chance;
+use crate::failures::Failures;
 use crate::hold::{self, Promises};
 use crate::readings::{self, Pattern, PATTERNS};
 use crate::row::Row;
@@ -26,19 +27,27 @@ pub struct Method {
     /// What the sensors do; none if it is drawn for each of them.
     pub pattern: Option<Pattern>,
     pub ties: Ties,
+    pub failures: Failures,
 }
 
-/// The methods tried on every directed tree: all frames just miss every window.
+impl Method {
+    const fn of(windows: Windows, pattern: Pattern, ties: Ties, failures: Failures) -> Method {
+        Method { windows, pattern: Some(pattern), ties, failures }
+    }
+}
+
+/// The methods tried on every directed tree: all frames just miss every window, and all tries fail that
+/// may.
 pub const ON_EVERY_TREE: [Method; 2] = [
-    Method { windows: Windows::JustMissed, pattern: Some(Pattern::Greedy), ties: Ties::OldestLast },
-    Method { windows: Windows::JustMissed, pattern: Some(Pattern::Held), ties: Ties::OldestLast },
+    Method::of(Windows::JustMissed, Pattern::Greedy, Ties::OldestLast, Failures::Always),
+    Method::of(Windows::JustMissed, Pattern::Held, Ties::OldestLast, Failures::Always),
 ];
 
 /// The methods tried on the largest directed tree besides.
 pub const ON_ONE_TREE: [Method; 3] = [
-    Method { windows: Windows::First, pattern: Some(Pattern::Greedy), ties: Ties::OldestLast },
-    Method { windows: Windows::Last, pattern: Some(Pattern::Greedy), ties: Ties::Drawn(1) },
-    Method { windows: Windows::Lines, pattern: Some(Pattern::OnOff), ties: Ties::OldestFirst },
+    Method::of(Windows::First, Pattern::Greedy, Ties::OldestLast, Failures::Never),
+    Method::of(Windows::Last, Pattern::Greedy, Ties::Drawn(1), Failures::Drawn(1)),
+    Method::of(Windows::Lines, Pattern::OnOff, Ties::OldestFirst, Failures::Drawn(2)),
 ];
 
 /// The most nodes of a tree whose sensors may all make their whole burst.
@@ -95,7 +104,7 @@ pub fn drawn(row: &Row, promises: &Promises, chance: &mut Chance) -> Result<Setu
     Ok(setup)
 }
 
-/// Windows, patterns and ties of all kinds.
+/// Windows, patterns, ties and failed tries of all kinds.
 pub fn drawn_method(chance: &mut Chance) -> Method {
     let windows =
         [Windows::First, Windows::Last, Windows::Lines, Windows::Drawn, Windows::JustMissed, Windows::JustMissed];
@@ -103,6 +112,7 @@ pub fn drawn_method(chance: &mut Chance) -> Method {
         windows: windows[chance.index(windows.len())],
         pattern: if chance.once_in(3) { None } else { Some(drawn_pattern(chance)) },
         ties: drawn_ties(chance),
+        failures: drawn_failures(chance),
     }
 }
 
@@ -117,6 +127,15 @@ pub fn drawn_ties(chance: &mut Chance) -> Ties {
         0 => Ties::OldestFirst,
         1 => Ties::Drawn(chance.draw()),
         _ => Ties::OldestLast,
+    }
+}
+
+/// A rule for tries that fail.
+fn drawn_failures(chance: &mut Chance) -> Failures {
+    match chance.up_to(3) {
+        0 => Failures::Never,
+        1 => Failures::Always,
+        _ => Failures::Drawn(chance.draw()),
     }
 }
 
@@ -147,11 +166,11 @@ pub fn sometimes_silent<T: Ways>(setup: &mut Setup<T>, chance: &mut Chance) {
     }
 }
 
-/// Offsets, readings of all sensors and ties for a tree.
+/// Offsets, readings of all sensors, ties and failed tries for a tree.
 fn setup(row: &Row, tree: Tree, aim: Aim, method: Method, frames: u64, chance: &mut Chance) -> Setup {
     let buckets: Vec<(usize, Row)> = tree.sensors(row).into_iter().map(|sensor| (sensor, *row)).collect();
     let readings = all_readings(&buckets, &aim, method, frames, chance);
-    Setup { tree, offsets: aim.offsets, readings, ties: method.ties }
+    Setup { tree, offsets: aim.offsets, readings, ties: method.ties, failures: method.failures }
 }
 
 /// Readings of all sensors, each within its bucket, with about so many frames at most.

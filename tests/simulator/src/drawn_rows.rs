@@ -1,4 +1,4 @@
-//! Planned rows drawn from all that document 01, "Rows of settings", allows.
+//! Planned rows drawn from all that document 01, "Rows of settings", and request E5 allow.
 
 use crate::chance::Chance;
 use crate::figures::{self, Answer, Version};
@@ -20,6 +20,7 @@ fn any(chance: &mut Chance, most_order: u64) -> Row {
     let octets = value(chance, &[6, 18, 19, 26], 6, 127);
     let most_rate = [60, 4095][chance.index(2)];
     let head = 5 + chance.up_to(octets - 6).min(121);
+    let ack = chance.up_to(1);
     Row {
         bo: so + chance.up_to(most_order - so),
         so,
@@ -32,7 +33,8 @@ fn any(chance: &mut Chance, most_order: u64) -> Row {
         rate: value(chance, &[1, 2, 3, 4, 8, 30], 1, most_rate),
         head,
         data: octets - head,
-        ack: chance.up_to(1),
+        ack,
+        loss: if ack == 1 { value(chance, &[0, 1, 2, 3], 0, 7) } else { 0 },
     }
 }
 

@@ -1,5 +1,6 @@
-//! The plan of a row by document 01's recurrences ("The tree and its loads") and request E2 of document
-//! 02, read independently of any other planner, with five deliberately wrong versions.
+//! The plan of a row by document 01's recurrences ("The tree and its loads") and requests E2 and E5 of
+//! document 02, read independently of any other planner, with six deliberately wrong versions. X is the
+//! time of an exchange with its failed tries.
 //!
 //! Arithmetic is in u128. A rate is at most 4095 × 8 times the number of routers; the number of
 //! routers is at most 13 × 7^12 before check 6 and 2^14 after it; bursts and latencies are made only
@@ -23,11 +24,19 @@ pub enum Version {
     DelayLow,
     /// The load after a link keeps burst β.
     BurstKept,
+    /// FRAMES and what follows from them as if no try failed, in the same slots.
+    NoFailures,
 }
 
-/// The five wrong versions.
-pub const WRONG: [Version; 5] =
-    [Version::LatencyLessWindow, Version::LatencyShort, Version::BufferLow, Version::DelayLow, Version::BurstKept];
+/// The six wrong versions.
+pub const WRONG: [Version; 6] = [
+    Version::LatencyLessWindow,
+    Version::LatencyShort,
+    Version::BufferLow,
+    Version::DelayLow,
+    Version::BurstKept,
+    Version::NoFailures,
+];
 
 /// One line of a printed plan (document 01, "The printed plan").
 #[derive(Clone, Debug, PartialEq, Eq)]
@@ -73,7 +82,7 @@ fn slots_for(row: &Row, rate: u128) -> u128 {
 /// One link of the plan: its line and the load that leaves it.
 fn link(row: &Row, version: Version, kind: char, depth: u64, load: Load) -> (Line, Load) {
     let bi = u128::from(air::interval(row));
-    let x = u128::from(air::exchange(row));
+    let x = u128::from(if version == Version::NoFailures { air::good_try(row) } else { air::exchange(row) });
     let window = slots_for(row, load.rate) * u128::from(air::slot(row));
     let frames = window / x;
     // BI − (m − 2) × X, written so that m = 1 needs no negative number.
@@ -114,6 +123,8 @@ fn at_odds(row: &Row) -> Option<u64> {
         Some(7)
     } else if row.head + row.data > 127 {
         Some(11)
+    } else if row.loss > 0 && row.ack == 0 {
+        Some(13)
     } else {
         None
     }
@@ -254,6 +265,23 @@ mod tests {
         assert_eq!(planned("8 4 1 2 1 0 1 1 1 19 7 0"), expected);
     }
 
+    /// P1 acknowledged: X = 138. With LOSS 1 an exchange lasts 296, 3 of them fit a slot and T = BI − 296;
+    /// with LOSS 7 it lasts 1,244, which takes two slots, and T = BI + 1,244.
+    #[test]
+    fn first_plan_with_failed_tries() {
+        let expected = "KIND DEPTH RATE BURST SLOTS FRAMES LATENCY BUFFER DELAY\n\
+                        E 0 1 245760 1 3 245464 2 327384\n\
+                        U 1 1 491224 1 3 245464 3 409206\n\
+                        S 0 3 1964600 0 0 0 8 736590\n";
+        assert_eq!(planned("8 4 1 2 1 0 0 1 1 19 7 1 1"), expected);
+        let expected = "KIND DEPTH RATE BURST SLOTS FRAMES LATENCY BUFFER DELAY\n\
+                        E 0 1 245760 2 1 247004 3 492764\n\
+                        U 1 1 492764 2 1 247004 4 739768\n\
+                        S 0 3 1972300 0 0 0 9 1232532\n";
+        assert_eq!(planned("8 4 1 2 1 0 0 1 1 19 7 1 7"), expected);
+        assert_eq!(planned("8 4 1 2 1 0 0 1 1 19 7 1 0"), planned("8 4 1 2 1 0 0 1 1 19 7 1"));
+    }
+
     /// P3's figures, k = 2, m = 1, T = 1064, delay 2024, with one end node less: 6 slots of the 7 that
     /// request E2 leaves are used. P3's own row uses 8 of 7 and is refused.
     #[test]
@@ -299,12 +327,15 @@ mod tests {
         assert!(planned("8 4 1 4 3 0 0 1 1 19 7 0").starts_with("KIND"));
         assert_eq!(planned("8 4 1 4 4 0 0 1 1 19 7 0"), "R 5 0\n");
         assert_eq!(planned("4 8 1 2 1 0 0 1 1 19 7 0"), "R 4 2\n");
+        assert_eq!(planned("8 4 1 2 1 0 0 1 1 19 7 0 1"), "R 4 13\n");
+        assert_eq!(planned("8 4 1 2 1 0 0 1 1 126 2 0 1"), "R 4 11\n");
     }
 
     /// Every wrong version differs from the right one somewhere, and reserves the same slots.
     #[test]
     fn versions_differ() {
-        let row = Row::read("1 1 0 0 1 0 0 1 1 5 13 0");
+        // X = 94 and with LOSS 1 an exchange of 208; a slot has 120 symbols, so that 4 hold 2: T = BI.
+        let row = Row::read("1 1 0 0 1 0 0 1 2 5 13 1 1");
         let Answer::Plan(right) = answer(&row, Version::Right) else { panic!("planned") };
         for version in WRONG {
             let Answer::Plan(wrong) = answer(&row, version) else { panic!("planned") };

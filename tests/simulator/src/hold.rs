@@ -181,6 +181,7 @@ fn stretch_reach(row: &Row, promises: &Promises, outcome: &Outcome) -> Reach {
 #[cfg(test)]
 mod tests {
     use super::*;
+    use crate::failures::Tries;
     use crate::setup::Frame;
     use crate::shapes;
     use crate::tree::Tree;
@@ -203,7 +204,7 @@ mod tests {
         let mut arrivals: Vec<(u64, usize)> =
             frames.iter().enumerate().filter_map(|(i, frame)| frame.1.map(|came| (came, i))).collect();
         arrivals.sort_unstable();
-        Outcome { frames, arrivals, queues: vec![0, queue], last }
+        Outcome { frames, arrivals, queues: vec![0, queue], last, tries: Tries::default() }
     }
 
     fn over(outcome: &Outcome) -> Vec<Claim> {

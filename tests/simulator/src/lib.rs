@@ -2,9 +2,10 @@
 //!
 //! It holds the figures of a printed plan (slots, queue sizes, total delay, the sink's burst and
 //! rate) against simulated radio trees. The run takes nothing from the planner but these figures.
-//! The package also has its own reading of document 01's recurrences, with five deliberate
+//! The package also has its own reading of document 01's recurrences, with six deliberate
 //! mutations, so that it can be shown that wrong figures are found out. The same is done for the
-//! surveyed trees of request E3, with four mutations.
+//! surveyed trees of request E3, with five mutations. By request E5 tries of a frame may fail, so that
+//! an exchange lasts longer; the run has these tries too.
 
 pub mod aim;
 pub mod air;
@@ -13,6 +14,7 @@ pub mod bucket;
 pub mod chance;
 pub mod change;
 pub mod drawn_rows;
+pub mod failures;
 pub mod figures;
 pub mod hold;
 pub mod link;

@@ -12,15 +12,25 @@ pub struct Link {
     pub next: usize,
     /// a, the window's first symbol in each interval.
     pub offset: u64,
-    /// m, the starts in each interval, X symbols apart.
+    /// m, the starts in each interval, an exchange apart.
     pub frames: u64,
-    /// X.
+    /// The exchange, failed tries included.
     pub exchange: u64,
     /// BI.
     pub interval: u64,
+    /// LOSS, the tries of a frame that may fail in a row.
+    pub loss: u64,
+    /// The try that fails, and the one that succeeds.
+    pub failed_try: u64,
+    pub good_try: u64,
 }
 
 impl Link {
+    /// The symbols that the tries of an exchange take, if so many fail.
+    pub fn tries(&self, failed: u64) -> u64 {
+        failed * self.failed_try + self.good_try
+    }
+
     /// The first start in symbol `from` or later; none if the window holds no exchange.
     pub fn start_from(&self, from: u64) -> Option<u64> {
         if self.frames == 0 {
@@ -65,6 +75,9 @@ pub fn links(row: &Row, promises: &Promises, tree: &impl Ways, offsets: &[u64]) 
             frames: air::exchanges(row, slots),
             exchange: air::exchange(row),
             interval: air::interval(row),
+            loss: row.loss,
+            failed_try: air::failed_try(row),
+            good_try: air::good_try(row),
         }))
     };
     ways.into_iter().zip(offsets).map(link).collect()
@@ -78,7 +91,8 @@ mod tests {
     #[test]
     fn starts_by_looking() {
         for (offset, frames) in [(0, 1), (0, 4), (7, 3), (9, 1), (2, 0), (0, 2)] {
-            let link = Link { next: 0, offset, frames, exchange: 3, interval: 16 };
+            let (exchange, interval, loss) = (3, 16, 0);
+            let link = Link { next: 0, offset, frames, exchange, interval, loss, failed_try: 3, good_try: 3 };
             let is_start = |symbol: u64| {
                 let within = symbol % 16;
                 (0..frames).any(|number| offset + number * 3 == within)

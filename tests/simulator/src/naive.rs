@@ -1,8 +1,9 @@
 //! The run of document 01, "The run", taken literally: one symbol after another, all nodes in each.
 //! It is slow and serves to check the run that looks only at symbols in which something changes. It
-//! shares nothing with that run but the numbering of the frames and the ranks in ties, and finds the
-//! starts by itself.
+//! shares nothing with that run but the numbering of the frames, the ranks in ties and the numbers of
+//! tries that fail, and finds the starts by itself.
 
+use crate::failures::Tries;
 use crate::link::Link;
 use crate::run::Outcome;
 use crate::setup::{self, Frame, Setup};
@@ -12,13 +13,24 @@ use crate::tree::Ways;
 #[derive(Clone, Copy, PartialEq, Eq)]
 enum Place {
     Unmade,
-    /// In the queue of a node since a symbol; if it is being sent, since which symbol.
+    /// In the queue of a node since a symbol; if it is being sent, its exchange.
     Queue {
         node: usize,
         came: u64,
-        started: Option<u64>,
+        sent: Option<Exchange>,
     },
     Sink(u64),
+}
+
+/// An exchange under way.
+#[derive(Clone, Copy, PartialEq, Eq)]
+struct Exchange {
+    started: u64,
+    /// The symbol in which the present try began; none once one has succeeded.
+    trying: Option<u64>,
+    /// Tries that have failed so far, and that will.
+    failed: u64,
+    fails: u64,
 }
 
 /// Runs a setup through symbols 0 to `last`.
@@ -26,8 +38,10 @@ pub fn run<T: Ways>(links: &[Option<Link>], setup: &Setup<T>, last: u64) -> Outc
     let frames = setup::frames(&setup.readings);
     let mut places = vec![Place::Unmade; frames.len()];
     let mut queues = vec![0; links.len()];
+    let mut tries = Tries::default();
     for symbol in 0..=last {
-        ends(links, &mut places, symbol);
+        try_again(links, &mut places, symbol);
+        ends(links, &mut places, symbol, &mut tries);
         readings(links, &frames, &mut places, symbol);
         starts(links, setup, &frames, &mut places, symbol);
         measure(&places, &mut queues);
@@ -40,23 +54,41 @@ pub fn run<T: Ways>(links: &[Option<Link>], setup: &Setup<T>, last: u64) -> Outc
     let mut arrivals: Vec<(u64, usize)> =
         came.iter().enumerate().filter_map(|(frame, came)| came.map(|symbol| (symbol, frame))).collect();
     arrivals.sort_unstable();
-    Outcome { frames: frames.into_iter().zip(came).collect(), arrivals, queues, last }
+    Outcome { frames: frames.into_iter().zip(came).collect(), arrivals, queues, last, tries }
 }
 
 /// A frame at a node in a symbol: the sink hands it on, another node puts it into its queue.
 fn arrived(links: &[Option<Link>], node: usize, symbol: u64) -> Place {
     match links[node] {
         None => Place::Sink(symbol),
-        Some(_) => Place::Queue { node, came: symbol, started: None },
+        Some(_) => Place::Queue { node, came: symbol, sent: None },
     }
 }
 
-/// Exchanges started X symbols earlier end.
-fn ends(links: &[Option<Link>], places: &mut [Place], symbol: u64) {
+/// Tries that are over in this symbol have failed, and the next begins, or have succeeded.
+fn try_again(links: &[Option<Link>], places: &mut [Place], symbol: u64) {
     for place in places.iter_mut() {
-        if let Place::Queue { node, started: Some(started), .. } = *place {
+        let Place::Queue { node, sent: Some(sent), .. } = place else { continue };
+        let link = links[*node].expect("a queue has a link");
+        let Some(began) = sent.trying else { continue };
+        if sent.failed < sent.fails && began + link.failed_try == symbol {
+            sent.failed += 1;
+            sent.trying = Some(symbol);
+        } else if sent.failed == sent.fails && began + link.good_try == symbol {
+            sent.trying = None;
+        }
+    }
+}
+
+/// Exchanges that began an exchange's length earlier end.
+fn ends(links: &[Option<Link>], places: &mut [Place], symbol: u64, tries: &mut Tries) {
+    for place in places.iter_mut() {
+        if let Place::Queue { node, sent: Some(sent), .. } = *place {
             let link = links[node].expect("a queue has a link");
-            if started + link.exchange == symbol {
+            if sent.started + link.exchange == symbol {
+                tries.failed += sent.fails;
+                tries.worst += u64::from(sent.fails > 0 && sent.fails == link.loss);
+                tries.late += u64::from(sent.trying.is_some());
                 *place = arrived(links, link.next, symbol);
             }
         }
@@ -83,18 +115,20 @@ fn starts<T: Ways>(links: &[Option<Link>], setup: &Setup<T>, frames: &[Frame], p
         }
         let mut chosen: Option<(u64, u64, usize)> = None;
         for (frame, place) in places.iter().enumerate() {
-            let Place::Queue { node, came, started } = *place else { continue };
+            let Place::Queue { node, came, sent } = *place else { continue };
             if node != number {
                 continue;
             }
-            assert!(started.is_none(), "two exchanges of one link at once");
+            assert!(sent.is_none(), "two exchanges of one link at once");
             let turn = (came, setup.ties.rank(frame, frames[frame].made, number), frame);
             if came < symbol && chosen.is_none_or(|best| turn < best) {
                 chosen = Some(turn);
             }
         }
         if let Some((came, _, frame)) = chosen {
-            places[frame] = Place::Queue { node: number, came, started: Some(symbol) };
+            let fails = setup.failures.count(frame, number, link.loss);
+            let sent = Exchange { started: symbol, trying: Some(symbol), failed: 0, fails };
+            places[frame] = Place::Queue { node: number, came, sent: Some(sent) };
         }
     }
 }

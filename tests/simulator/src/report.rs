@@ -52,7 +52,7 @@ fn keep(best: &mut Option<Run>, reach: &Reach, row: &Row) {
 impl Tally {
     /// Takes a run that kept the right figures.
     pub fn take(&mut self, case: &Case, setup: &Setup, outcome: &Outcome, reaches: &[Reach; 5]) -> Result<(), String> {
-        self.count(outcome);
+        self.count(case.row.loss, outcome);
         self.closest.take(&case.row, reaches);
         for (version, promises) in &case.wrong {
             let reaches = hold::hold(&case.row, promises, &setup.tree, outcome)?;

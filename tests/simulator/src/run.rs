@@ -7,11 +7,12 @@
 //!    So the state (which frames wait where since when, which are being sent) changes only in symbols
 //!    with an end, with a reading, or with a start that is used. In every other symbol the order of
 //!    document 01 does nothing.
-//! 2. The ends are known when an exchange begins (X symbols later), the readings are known from the
-//!    list. It remains to know the used starts. While a node sends, no start of its link comes: its
-//!    starts are at least X apart, within an interval by definition and between intervals because
-//!    the last exchange ends within its window or with it, and the exchange that ends in the symbol
-//!    of a start has ended before it, for ends come first in a symbol. A node that does not send and
+//! 2. The ends are known when an exchange begins (its whole length later, however many of its tries
+//!    fail: "a frame counts as received when its exchange ends", request E5), the readings are known
+//!    from the list. It remains to know the used starts. While a node sends, no start of its link
+//!    comes: its starts are at least an exchange apart, within an interval by definition and between
+//!    intervals because the last exchange ends within its window or with it, and the exchange that
+//!    ends in the symbol of a start has ended before it, for ends come first in a symbol. A node that does not send and
 //!    has frames uses the first start that comes after the symbol in which its oldest frame came:
 //!    every earlier start finds no frame that came earlier, and this one does. That symbol is fixed
 //!    once the oldest frame is there, for a frame that comes later does not make the oldest older,
@@ -28,6 +29,7 @@
 use std::cmp::Reverse;
 use std::collections::{BinaryHeap, VecDeque};
 
+use crate::failures::{Failures, Tries};
 use crate::link::Link;
 use crate::setup::{self, Frame, Setup};
 use crate::ties::Ties;
@@ -45,6 +47,18 @@ pub struct Outcome {
     pub queues: Vec<u64>,
     /// The last symbol looked at.
     pub last: u64,
+    /// The tries of the exchanges that ended.
+    pub tries: Tries,
+}
+
+impl Outcome {
+    /// Every exchange has had the time for all its tries.
+    pub fn check_tries(&self) -> Result<(), String> {
+        match self.tries.late {
+            0 => Ok(()),
+            late => Err(format!("{late} exchanges were over before the last try was")),
+        }
+    }
 }
 
 /// What happens at a node in a symbol; ends come before starts.
@@ -59,7 +73,8 @@ enum Event {
 struct Node {
     /// Waiting frames, the one that goes first on top: symbol in which it came, rank, number.
     waiting: BinaryHeap<Reverse<(u64, u64, usize)>>,
-    sending: Option<usize>,
+    /// The frame being sent, and how many of its tries fail.
+    sending: Option<(usize, u64)>,
     planned: bool,
     largest: u64,
 }
@@ -67,6 +82,8 @@ struct Node {
 struct Run<'a> {
     links: &'a [Option<Link>],
     ties: Ties,
+    failures: Failures,
+    tries: Tries,
     frames: Vec<(Frame, Option<u64>)>,
     unmade: VecDeque<usize>,
     arrivals: Vec<(u64, usize)>,
@@ -82,6 +99,8 @@ pub fn run<T: Ways>(links: &[Option<Link>], setup: &Setup<T>, last: u64) -> Outc
     let mut run = Run {
         links,
         ties: setup.ties,
+        failures: setup.failures,
+        tries: Tries::default(),
         unmade: (0..frames.len()).collect(),
         frames,
         arrivals: Vec::new(),
@@ -94,7 +113,7 @@ pub fn run<T: Ways>(links: &[Option<Link>], setup: &Setup<T>, last: u64) -> Outc
     }
     run.arrivals.sort_unstable();
     let queues = run.nodes.iter().map(|node| node.largest).collect();
-    Outcome { frames: run.frames, arrivals: run.arrivals, queues, last }
+    Outcome { frames: run.frames, arrivals: run.arrivals, queues, last, tries: run.tries }
 }
 
 impl Run<'_> {
@@ -136,7 +155,10 @@ impl Run<'_> {
     /// An exchange ends: its frame leaves its queue and comes to the receiver.
     fn end(&mut self, symbol: u64, node: usize) {
         let sent = self.nodes[node].sending.take();
-        if let (Some(frame), Some(link)) = (sent, self.links[node]) {
+        if let (Some((frame, failed)), Some(link)) = (sent, self.links[node]) {
+            self.tries.failed += failed;
+            self.tries.worst += u64::from(failed > 0 && failed == link.loss);
+            self.tries.late += u64::from(link.tries(failed) > link.exchange);
             self.touched.push(node);
             self.come(symbol, frame, link.next);
         }
@@ -177,12 +199,12 @@ impl Run<'_> {
         }
     }
 
-    /// A used start: the oldest waiting frame is sent and is at the receiver X symbols later.
+    /// A used start: the oldest waiting frame is sent and is at the receiver an exchange later.
     fn start(&mut self, symbol: u64, number: usize) {
         let node = &mut self.nodes[number];
         node.planned = false;
         if let (Some(Reverse((_, _, frame))), Some(link)) = (node.waiting.pop(), self.links[number]) {
-            node.sending = Some(frame);
+            node.sending = Some((frame, self.failures.count(frame, number, link.loss)));
             self.events.push(Reverse((symbol + link.exchange, Event::End, number)));
         }
     }

@@ -1,7 +1,8 @@
 //! All that a run is fed besides the row and the printed figures (document 01, "The run"): a tree, an
-//! offset for each window, a list of readings, and a rule for ties.
+//! offset for each window, a list of readings, a rule for ties, and one for tries that fail.
 
 use crate::bucket;
+use crate::failures::Failures;
 use crate::row::Row;
 use crate::ties::Ties;
 use crate::tree::{Tree, Ways};
@@ -21,6 +22,7 @@ pub struct Setup<T: Ways = Tree> {
     pub offsets: Vec<u64>,
     pub readings: Vec<Reading>,
     pub ties: Ties,
+    pub failures: Failures,
 }
 
 impl Setup {

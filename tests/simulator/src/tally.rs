@@ -1,8 +1,10 @@
-//! The tally of all runs, kept alike for rows and for surveyed trees: how many there were, how close they
-//! came to the right figures, and how the wrong ones were found out.
+//! The tally of all runs, kept alike for rows and for surveyed trees: how many there were, how many tries
+//! failed in them, how close they came to the right figures, and how the wrong ones were found out.
 
+use std::collections::BTreeMap;
 use std::fmt::{Debug, Display};
 
+use crate::failures::Tries;
 use crate::hold::Reach;
 use crate::run::Outcome;
 
@@ -29,6 +31,8 @@ struct Fared<B: Broken> {
 pub struct Tally<C, B: Broken> {
     pub runs: u64,
     frames: u64,
+    /// Runs in which frames came to the sink, by LOSS, with the tries of all of them.
+    losses: BTreeMap<u64, (u64, Tries)>,
     pub(crate) closest: C,
     wrong: Vec<Fared<B>>,
 }
@@ -37,15 +41,29 @@ impl<C: Default, B: Broken> Default for Tally<C, B> {
     /// No runs yet.
     fn default() -> Tally<C, B> {
         let fared = |version: &B::Version| Fared { version: *version, runs: 0, broken: B::default() };
-        Tally { runs: 0, frames: 0, closest: C::default(), wrong: B::WRONG.iter().map(fared).collect() }
+        let wrong = B::WRONG.iter().map(fared).collect();
+        Tally { runs: 0, frames: 0, losses: BTreeMap::new(), closest: C::default(), wrong }
     }
 }
 
 impl<C: Display, B: Broken> Tally<C, B> {
-    /// Counts a run that kept the right figures.
-    pub(crate) fn count(&mut self, outcome: &Outcome) {
+    /// Counts a run with this LOSS that kept the right figures.
+    pub(crate) fn count(&mut self, loss: u64, outcome: &Outcome) {
         self.runs += 1;
         self.frames += outcome.frames.len() as u64;
+        if !outcome.arrivals.is_empty() {
+            let (runs, tries) = self.losses.entry(loss).or_default();
+            *runs += 1;
+            tries.failed += outcome.tries.failed;
+            tries.worst += outcome.tries.worst;
+        }
+    }
+
+    /// The LOSS from 0 to 7 with which no run was made, or none in which all the tries of a frame failed
+    /// that may.
+    pub fn untried(&self) -> Vec<u64> {
+        let tried = |loss: &u64| self.losses.get(loss).is_some_and(|(_, tries)| *loss == 0 || tries.worst > 0);
+        (0..=7).filter(|loss| !tried(loss)).collect()
     }
 
     /// Takes what a run reached of the figures of a wrong version.
@@ -66,8 +84,11 @@ impl<C: Display, B: Broken> Tally<C, B> {
 
     /// The report.
     pub fn text(&self) -> String {
-        let Tally { runs, frames, closest, wrong } = self;
+        let Tally { runs, frames, losses, closest, wrong } = self;
         let mut text = format!("{runs} runs, {frames} frames, right figures kept\n");
+        for (loss, (runs, Tries { failed, worst, .. })) in losses {
+            text += &format!("  LOSS {loss}: {runs} runs, {failed} tries failed, in {worst} exchanges all that may\n");
+        }
         text += &format!("closest to the printed figures (reached / printed)\n{closest}wrong figures\n");
         for Fared { version, runs, broken } in wrong {
             text += &format!("  {version:?}: broken by {runs} runs on {broken}");

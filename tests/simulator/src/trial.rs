@@ -30,13 +30,15 @@ impl Case {
 
     /// Runs a setup. It must keep all that document 01 asks of what a run is fed; then the run goes on
     /// until one symbol after the printed delay of the last reading, so that a frame that is not at
-    /// the sink by then breaks the printed delay.
+    /// the sink by then breaks the printed delay. The tries of each exchange must be over when it is.
     pub fn run(&self, setup: &Setup) -> Result<Outcome, String> {
         setup.check(&self.row)?;
         let links = link::links(&self.row, &self.right, &setup.tree, &setup.offsets)?;
         let last_reading = setup.readings.iter().map(|reading| reading.symbol).max().unwrap_or(0);
         let last = last_reading.checked_add(self.right.delay).and_then(|sum| sum.checked_add(1));
-        Ok(run::run(&links, setup, last.ok_or("a delay too large")?))
+        let outcome = run::run(&links, setup, last.ok_or("a delay too large")?);
+        outcome.check_tries()?;
+        Ok(outcome)
     }
 
     /// Holds the right figures against a run.
@@ -45,7 +47,8 @@ impl Case {
     }
 }
 
-/// All that is needed to make a run again: row, nodes with their links and offsets, readings, ties.
+/// All that is needed to make a run again: row, nodes with their links and offsets, ties, failed tries,
+/// readings.
 pub fn describe(case: &Case, setup: &Setup) -> String {
     let mut text = format!("row {}\ntree, sink is node {}\n", case.row, setup.tree.sink);
     for (number, (node, way)) in setup.tree.nodes.iter().zip(setup.tree.ways()).enumerate() {
@@ -59,7 +62,8 @@ pub fn describe(case: &Case, setup: &Setup) -> String {
         }
         text.push('\n');
     }
-    text += &format!("ties {:?}\nreadings, as symbol, sensor, count\n", setup.ties);
+    text += &format!("ties {:?}, failed tries {:?}\n", setup.ties, setup.failures);
+    text += "readings, as symbol, sensor, count\n";
     for reading in &setup.readings {
         text += &format!("  {} {} {}\n", reading.symbol, reading.sensor, reading.count);
     }

@@ -1,5 +1,6 @@
 //! Runs of one link worked out by hand.
 
+use simulator::failures::Failures;
 use simulator::figures::{self, Answer, Version};
 use simulator::hold::Reach;
 use simulator::row::Row;
@@ -16,6 +17,7 @@ fn setup(row: &Row, offset: u64, readings: &[(u64, u64)]) -> Setup {
         offsets: vec![0, offset],
         readings: readings.iter().map(reading).collect(),
         ties: Ties::OldestFirst,
+        failures: Failures::Always,
     }
 }
 
@@ -53,6 +55,42 @@ fn buffer_reached() {
     assert!(!reaches.iter().any(Reach::is_over));
     let stretch = &reaches[4];
     assert_eq!((stretch.reached, stretch.printed), (2 * 1920 - 61, 2 * 1920));
+}
+
+/// M = 18 acknowledged: X = 94, a failed try 114, and with LOSS 1 an exchange 208, of which 4 slots of 120
+/// hold two: BI = 1920, T = BI. The frame is at the sink when its exchange ends, whether its first try
+/// fails or not.
+#[test]
+fn failed_tries() {
+    let case = case("1 1 0 0 1 0 0 1 2 5 13 1 1");
+    for failures in [Failures::Never, Failures::Always, Failures::Drawn(1)] {
+        let with = |readings: &[(u64, u64)]| Setup { failures, ..setup(&case.row, 100, readings) };
+        assert_eq!(arrivals(&case, &with(&[(308, 1)])), [308 + 1920]);
+        assert_eq!(arrivals(&case, &with(&[(307, 1)])), [516]);
+        assert_eq!(arrivals(&case, &with(&[(99, 1)])), [308]);
+    }
+    let tries = |failures, readings: &[(u64, u64)]| {
+        let setup = Setup { failures, ..setup(&case.row, 100, readings) };
+        case.run(&setup).expect("a run").tries
+    };
+    let readings = [(99, 1), (99 + 1920, 1)];
+    assert_eq!((tries(Failures::Never, &readings).failed, tries(Failures::Always, &readings).failed), (0, 2));
+    assert_eq!((tries(Failures::Always, &readings).worst, tries(Failures::Always, &readings).late), (2, 0));
+}
+
+/// M = 6 acknowledged: X = 70, a failed try 90, and with LOSS 3 an exchange of 340 in 6 slots of 60. BI = 960
+/// and T = BI + 340: a frame made in the symbol of the only start is at the sink so much later.
+#[test]
+fn just_missed_with_failed_tries() {
+    let case = case("0 0 0 0 1 0 0 1 1 5 1 1 3");
+    assert_eq!(arrivals(&case, &setup(&case.row, 600, &[(600, 1)])), [600 + 1300]);
+    assert_eq!(arrivals(&case, &setup(&case.row, 600, &[(599, 1)])), [940]);
+    assert!(case.run(&setup(&case.row, 601, &[(600, 1)])).is_err(), "the window has 360 symbols of 960");
+    let setup = setup(&case.row, 600, &[(600, 1)]);
+    let outcome = case.run(&setup).expect("a run");
+    assert_eq!((outcome.tries.failed, outcome.tries.worst, outcome.tries.late), (3, 1, 0));
+    let reaches = case.hold(&setup, &outcome).expect("held");
+    assert_eq!((reaches[3].reached, reaches[3].printed), (1300, 960 + 1300));
 }
 
 /// Readings that break the bucket make no run, nor does a window that does not fit.

@@ -19,11 +19,11 @@ fn case(survey: Survey, version: Version) -> Option<Case> {
     Case::of(survey, &answer).expect("a plan")
 }
 
-/// A drawn planned tree with a short interval and few nodes.
-fn small(chance: &mut Chance) -> Case {
+/// A drawn planned tree with a short interval and few nodes, with tries that may fail if asked for.
+fn small(lossy: bool, chance: &mut Chance) -> Case {
     loop {
         let survey = drawn::any(chance);
-        if survey.bo <= 3 && survey.nodes.len() <= 14 {
+        if survey.bo <= 3 && survey.nodes.len() <= 14 && (survey.loss > 0 || !lossy) {
             if let Some(case) = case(survey, Version::Right) {
                 return case;
             }
@@ -35,9 +35,9 @@ fn small(chance: &mut Chance) -> Case {
 #[test]
 fn every_symbol() {
     let mut chance = Chance::new(71);
-    let (mut compared, mut below, mut frames) = (0, 0, 0);
-    while compared < 300 {
-        let case = small(&mut chance);
+    let (mut compared, mut below, mut frames, mut failed) = (0, 0, 0, 0);
+    while compared < 400 {
+        let case = small(compared % 4 == 0, &mut chance);
         let mut setup = drawn_setup(&case, &mut chance).expect("a setup");
         let interval = air::interval(&case.survey.row());
         let last = if chance.once_in(2) {
@@ -58,11 +58,13 @@ fn every_symbol() {
         let links = link::links(&case.survey.row(), &case.right.links, &case.survey, &setup.offsets).expect("links");
         let quick = run::run(&links, &setup, last);
         assert_eq!(quick, naive::run(&links, &setup, last), "{}", case.describe(&setup));
+        assert_eq!(quick.check_tries(), Ok(()), "{}", case.describe(&setup));
+        failed += quick.tries.failed;
         compared += 1;
         frames += quick.arrivals.len();
         below += u64::from(case.survey.sink > 0 && quick.arrivals.len() > 5);
     }
-    assert!(below > 20 && frames > 3_000, "{below} {frames}");
+    assert!(below > 20 && frames > 3_000 && failed > 500, "{below} {frames} {failed}");
 }
 
 /// The first claims that runs break if the figures of this version are held.
@@ -109,6 +111,7 @@ fn wrong_versions_beside_the_right_one() {
     let mut attack = Attack::new(cases, Chance::new(73));
     assert_eq!(attack.all(0), Ok(()));
     assert_eq!(attack.tally.survivors(), []);
+    assert_eq!(attack.tally.untried(), [] as [u64; 0]);
     assert!(attack.tally.text().contains("right figures kept"));
 }
 

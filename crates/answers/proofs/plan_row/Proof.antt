@@ -23,7 +23,7 @@ returns : tie.Need-returns
 returns c =
     let a = c .before .before .before .before .before .before .before .args in
     let w = c .before .before .plan-read .ensures in
-    let e = ap readOutcome (c .before .before .before .before .read-row .ensures) ∙ row-outcome (a .row .now) in
+    let e = ap readOutcome (c .before .before .before .before .read-row .ensures) ∙ row-outcome (a .heading) (a .row .now) in
     (w .0 ∙ ap (answer text) e, (w .1 .0, w .1 .1 ∙ ap (λ (o : RowOutcome). sets (a .out .now) 0 (written text o)) e))
 
 pub plan-row-spec : {M : Type 1} → statement M

@@ -25,7 +25,7 @@ unfolding rowAt piece
 returns c =
     let a = c .before .before .before .before .before .before .args in
     let e = sym (c .before .before .before .next-line .ensures) ∙ c .before .enum-told .given .1 in
-    (rw (c .rows-from .ensures) (ap (λ (l : Line). piece (rowAt (a .style) (a .input .now) (a .at) l)) (sym e)), (omega arith, rw e))
+    (rw (c .rows-from .ensures) (ap (λ (l : Line). piece (rowAt (a .style) (a .heading) (a .input .now) (a .at) l)) (sym e)), (omega arith, rw e))
 
 part-requires : tie.Need-part-requires
 part-requires c κs = search needs
@@ -47,7 +47,7 @@ returns-2 c =
     let found = c .before .before .before .before .before .before .before .line .given .0 in
     let row : c .before .before .before .before .before .part .result .now ≡ partOf (a .input .now) (found .0) (found .1 .0) = c .before .before .before .before .before .part .ensures in
     let put = c .before .before .before .put-row .ensures in
-    let next : c .rows-from2 .result ≡ rowsFrom (found .1 .1 .0 .at) = c .rows-from2 .ensures in
+    let next : c .rows-from2 .result ≡ rowsFrom (a .heading) (found .1 .1 .0 .at) = c .rows-from2 .ensures in
     (rw (e, next, put .0, row), (put .1 .0, rw e (put .1 .1 ∙ rw row)))
 
 pub next-row-spec : {M : Type 1} → statement M

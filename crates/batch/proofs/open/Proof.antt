@@ -8,6 +8,9 @@ use borrow.Author.Needs.{needs}
 use Rattle.batch.proofs.open.Statement.{statement}
 use Rattle.batch.proofs.open.Tie as tie
 
+heading-in-requires : tie.Need-heading-in-requires
+heading-in-requires c κs = search needs
+
 check-input-requires : tie.Need-check-input-requires
 check-input-requires c κs = search needs
 
@@ -26,10 +29,11 @@ same-length c = search needs
 returns : tie.Need-returns
 unfolding piece
 returns c =
-    let a = c .before .before .before .before .before .before .before .before .before .before .before .args in
-    let e = opening-refused (a .style) (a .input .now) _ (sym (c .before .before .before .before .before .before .before .before .check-input .ensures) ∙ c .before .before .before .before .before .before .verdict .given .1) in
+    let a = c .before .before .before .before .before .before .before .before .before .before .before .before .args in
+    let h = c .before .before .before .before .before .before .before .before .before .heading-in in
+    let e = opening-refused (a .style) (a .input .now) (h .result) (h .ensures) _ (sym (c .before .before .before .before .before .before .before .before .check-input .ensures) ∙ c .before .before .before .before .before .before .verdict .given .1) in
     let put = c .before .before .before .put-refused .ensures in
-    let next : c .rows-from .result ≡ rowsFrom (length (a .input .now)) = c .rows-from .ensures in
+    let next : c .rows-from .result ≡ rowsFrom (h .result) (length (a .input .now)) = c .rows-from .ensures in
     (rw (e, next, put .0), (put .1 .0, rw e (put .1 .1)))
 
 enum-told : tie.Need-enum-told
@@ -47,14 +51,16 @@ rows-from-requires-2 c κs = search needs
 returns-2 : tie.Need-returns-2
 unfolding piece
 returns-2 c =
-    let a = c .before .before .before .before .before .before .before .before .args in
-    let e = opening-named (a .style) (a .input .now) (sym (c .before .before .before .before .before .check-input .ensures) ∙ c .before .before .before .enum-told .given .1) in
+    let a = c .before .before .before .before .before .before .before .before .before .args in
+    let h = c .before .before .before .before .before .before .heading-in in
+    let e = opening-named (a .style) (a .input .now) (h .result) (h .ensures) (sym (c .before .before .before .before .before .check-input .ensures) ∙ c .before .before .before .enum-told .given .1) in
     (rw (e, c .rows-from2 .ensures, c .before .line-end .ensures, c .before .before .next-line .ensures), (omega arith, rw e))
 
 pub open-spec : {M : Type 1} → statement M
 open-spec =
     tie.close
     (tie.spec
+    heading-in-requires
     check-input-requires
     enum-known-verdict
     put-refused-requires

@@ -28,13 +28,13 @@ returns : tie.Need-returns
 unfolding printed
 returns c =
     let a = c .before .before .before .before .before .before .before .before .before .before .before .before .before .args in
-    let o = rowOutcome (a .row .now) in
+    let o = rowOutcome (a .heading) (a .row .now) in
     let plan = c .before .before .before .before .before .before .before .before .before .plan-row in
     let w = plan .ensures in
     let broken = c .before .before .before .before .before .verdict .given .1 in
     let put = c .before .before .put-refusal .ensures in
     let e = refused-printed text o (plan .result) (w .0) _ broken in
-    let same : plan .last .1 .0 ≡ a .out .now = w .1 .1 ∙ ap (λ (t : List ℕ). sets (a .out .now) 0 t) (e .1) in
+    let same : plan .last .1 .1 .0 ≡ a .out .now = w .1 .1 ∙ ap (λ (t : List ℕ). sets (a .out .now) 0 t) (e .1) in
     (put .0 ∙ ap length (e .0), (put .1 .0, put .1 .1 ∙ ap₂ (λ (b t : List ℕ). sets b 0 t) same (e .0)))
 
 enum-told : tie.Need-enum-told
@@ -47,7 +47,7 @@ returns-2 : tie.Need-returns-2
 unfolding printed
 returns-2 c =
     let a = c .before .before .before .before .before .before .before .before .args in
-    let o = rowOutcome (a .row .now) in
+    let o = rowOutcome (a .heading) (a .row .now) in
     let plan = c .before .before .before .before .plan-row in
     let w = plan .ensures in
     let e = planned-printed text o (plan .result) (w .0) (c .enum-told .given .1) in

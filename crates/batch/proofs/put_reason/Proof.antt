@@ -24,7 +24,8 @@ same-length c = search needs
 
 returns : tie.Need-returns
 returns c =
-    let o = rowOutcome (c .before .before .before .before .before .before .before .before .before .args .row .now) in
+    let a = c .before .before .before .before .before .before .before .before .before .args in
+    let o = rowOutcome (a .heading) (a .row .now) in
     let e = ap (λ (p : Plan). ended (spoken (p .verdict) ∷ [])) (c .before .before .before .before .before .plan-row .ensures .0) ∙ spoken-verdict o in
     rw e at (c .before .before .put-spoken .ensures)
 

@@ -3,10 +3,9 @@ use mathlib.Core.Path.{_≡_, refl, sym}
 use native.Mathlib.Omega.{arith}
 use lib.ListN.{length, take, replicate}
 use lib.Seq.{length-take-le}
-use mathlib.Core.List.{_++_}
-use Rattle.row.specs.Rows.{named}
+use Rattle.row.specs.Names.{headingOf}
 use Rattle.balanced.specs.Lines.{lines}
-use Rattle.answers.specs.Outcomes.{spelledSettings, rowConditions, namedOutcome}
+use Rattle.answers.specs.Outcomes.{spelledSettings, rowConditions, rowOutcome, namedOutcome}
 use Rattle.report.specs.Text.{text}
 use Rattle.planner_c.specs.Entries.{planRow}
 use borrow.Author.Needs.{needs}
@@ -24,11 +23,11 @@ refused-requires : tie.Need-refused-requires
 refused-requires c κs = search needs
 
 returns : tie.Need-returns
-unfolding planRow namedOutcome
+unfolding planRow rowOutcome namedOutcome
 returns c =
     let a = c .before .before .before .before .before .before .before .before .args in
     let plan = c .before .before .before .plan-named-row in
-    plan-short text (lines (spelledSettings (a .row .now))) (named (a .names .now) ++ rowConditions (a .row .now)) (plan .result) (plan .ensures .0) (a .out .now) _ (omega (arith, c .before .if1 .taken)) (c .refused .ensures)
+    plan-short text (lines (spelledSettings (a .row .now))) (rowConditions (headingOf (a .names .now)) (a .row .now)) (plan .result) (plan .ensures .0) (a .out .now) _ (omega (arith, c .before .if1 .taken)) (c .refused .ensures)
 
 array-share-prefix-space : tie.Need-array-share-prefix-space
 array-share-prefix-space c = search needs
@@ -51,12 +50,12 @@ same-length : tie.Need-same-length
 same-length c = search needs
 
 returns-2 : tie.Need-returns-2
-unfolding planRow namedOutcome
+unfolding planRow rowOutcome namedOutcome
 returns-2 c =
     let a = c .before .before .before .before .before .before .before .before .before .before .before .before .before .args in
     let plan = c .before .before .before .before .before .before .before .before .plan-named-row in
     let w = plan .ensures in
-    plan-copied text (lines (spelledSettings (a .row .now))) (named (a .names .now) ++ rowConditions (a .row .now)) (plan .result) (w .0) (a .out .now) _ _ (plan .last .1 .1 .0) (replicate 4476 0) _ (omega (arith, c .before .before .before .before .before .before .if1 .left)) (omega (arith, w .1 .0)) (c .answer-of .ensures) (w .1 .1) refl (c .before .before .before .copy .ensures .1)
+    plan-copied text (lines (spelledSettings (a .row .now))) (rowConditions (headingOf (a .names .now)) (a .row .now)) (plan .result) (w .0) (a .out .now) _ _ (plan .last .1 .1 .0) (replicate 4476 0) _ (omega (arith, c .before .before .before .before .before .before .if1 .left)) (omega (arith, w .1 .0)) (c .answer-of .ensures) (w .1 .1) refl (c .before .before .before .copy .ensures .1)
 
 pub plan-apart-spec : {M : Type 1} → statement M
 plan-apart-spec =

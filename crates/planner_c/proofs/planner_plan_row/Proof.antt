@@ -1,9 +1,8 @@
 -- `planner_c::planner_plan_row` meets its contract. Assumes nothing.
 use native.Mathlib.Omega.{arith}
-use mathlib.Core.List.{_++_}
-use Rattle.row.specs.Rows.{named}
+use Rattle.row.specs.Names.{headingOf}
 use Rattle.balanced.specs.Lines.{lines}
-use Rattle.answers.specs.Outcomes.{spelledSettings, rowConditions, namedOutcome}
+use Rattle.answers.specs.Outcomes.{spelledSettings, rowConditions, rowOutcome, namedOutcome}
 use Rattle.report.specs.Text.{text}
 use Rattle.planner_c.specs.Entries.{planRow}
 use borrow.Author.Needs.{needs}
@@ -34,12 +33,12 @@ same-length-2 : tie.Need-same-length-2
 same-length-2 c = search needs
 
 returns-2 : tie.Need-returns-2
-unfolding planRow namedOutcome
+unfolding planRow rowOutcome namedOutcome
 returns-2 c =
     let a = c .before .before .before .before .before .before .before .before .before .args in
     let plan = c .before .before .before .plan-named-row in
     let w = plan .ensures in
-    let e = plan-left text (lines (spelledSettings (a .row .now))) (named (a .names .now) ++ rowConditions (a .row .now)) (plan .result) (w .0) (a .out .now) _ _ (omega (arith, c .before .before .before .before .before .if1 .left, w .1 .0)) (c .answer-of .ensures) (w .1 .1) in
+    let e = plan-left text (lines (spelledSettings (a .row .now))) (rowConditions (headingOf (a .names .now)) (a .row .now)) (plan .result) (w .0) (a .out .now) _ _ (omega (arith, c .before .before .before .before .before .if1 .left, w .1 .0)) (c .answer-of .ensures) (w .1 .1) in
     (e, promised-left (a .names .now) (a .row .now) (a .out .now) _ _ e)
 
 pub planner-plan-row-spec : {M : Type 1} → statement M

@@ -1,6 +1,7 @@
 -- `printout::check_arguments` meets its contract. Assumes nothing.
-use Rattle.printout.proofs.Outputs.{none-read, some-read, two-at-bo, two-at-so, two-at-head, two-at-data, two-at-ack, two-after, two-kept}
-use mathlib.Core.Path.{_∙_}
+use Rattle.printout.proofs.Outputs.{none-read, some-read, two-at-bo, two-at-so, two-at-head, two-at-data, two-at-ack, two-at-loss, two-after, two-kept}
+use mathlib.Core.Path.{sym, _∙_}
+use native.Mathlib.Omega.{arith}
 use borrow.Author.Needs.{needs}
 use Rattle.printout.proofs.check_arguments.Statement.{statement}
 use Rattle.printout.proofs.check_arguments.Tie as tie
@@ -12,7 +13,7 @@ unreadable-requires : tie.Need-unreadable-requires
 unreadable-requires c κs = search needs
 
 returns : tie.Need-returns
-returns c = (c .unreadable .ensures) ∙ two-at-bo (c .before .before .before .args .arguments) (none-read _ (c .before .enum-told .given .1))
+returns c = c .unreadable .ensures ∙ two-at-bo (c .before .before .before .args .arguments) (none-read _ (c .before .enum-told .given .1))
 
 enum-told-2 : tie.Need-enum-told-2
 enum-told-2 c = search needs
@@ -27,7 +28,7 @@ returns-2 : tie.Need-returns-2
 returns-2 c =
     let a = c .before .before .before .before .before .args .arguments in
     let bo = some-read _ _ (c .before .before .before .enum-told2 .given .1) in
-    (c .unreadable2 .ensures) ∙ two-at-so a bo (none-read _ (c .before .enum-told3 .given .1))
+    c .unreadable2 .ensures ∙ two-at-so a bo (none-read _ (c .before .enum-told3 .given .1))
 
 enum-told-4 : tie.Need-enum-told-4
 enum-told-4 c = search needs
@@ -43,7 +44,7 @@ returns-3 c =
     let a = c .before .before .before .before .before .before .before .args .arguments in
     let bo = some-read _ _ (c .before .before .before .before .before .enum-told2 .given .1) in
     let so = some-read _ _ (c .before .before .before .enum-told4 .given .1) in
-    (c .unreadable3 .ensures) ∙ two-at-head a bo so (none-read _ (c .before .enum-told5 .given .1))
+    c .unreadable3 .ensures ∙ two-at-head a bo so (none-read _ (c .before .enum-told5 .given .1))
 
 enum-told-6 : tie.Need-enum-told-6
 enum-told-6 c = search needs
@@ -60,7 +61,7 @@ returns-4 c =
     let bo = some-read _ _ (c .before .before .before .before .before .before .before .enum-told2 .given .1) in
     let so = some-read _ _ (c .before .before .before .before .before .enum-told4 .given .1) in
     let head = some-read _ _ (c .before .before .before .enum-told6 .given .1) in
-    (c .unreadable4 .ensures) ∙ two-at-data a bo so head (none-read _ (c .before .enum-told7 .given .1))
+    c .unreadable4 .ensures ∙ two-at-data a bo so head (none-read _ (c .before .enum-told7 .given .1))
 
 enum-told-8 : tie.Need-enum-told-8
 enum-told-8 c = search needs
@@ -78,30 +79,54 @@ returns-5 c =
     let so = some-read _ _ (c .before .before .before .before .before .before .before .enum-told4 .given .1) in
     let head = some-read _ _ (c .before .before .before .before .before .enum-told6 .given .1) in
     let payload = some-read _ _ (c .before .before .before .enum-told8 .given .1) in
-    (c .unreadable5 .ensures) ∙ two-at-ack a bo so head payload (none-read _ (c .before .enum-told9 .given .1))
+    c .unreadable5 .ensures ∙ two-at-ack a bo so head payload (none-read _ (c .before .enum-told9 .given .1))
 
 enum-told-10 : tie.Need-enum-told-10
 enum-told-10 c = search needs
 
+loss-of-requires : tie.Need-loss-of-requires
+loss-of-requires c κs = search needs
+
+enum-told-11 : tie.Need-enum-told-11
+enum-told-11 c = search needs
+
+unreadable-requires-6 : tie.Need-unreadable-requires-6
+unreadable-requires-6 c κs = search needs
+
 returns-6 : tie.Need-returns-6
 returns-6 c =
-    let a = c .before .before .before .before .before .before .before .before .before .before .before .args .arguments in
-    let bo = some-read _ _ (c .before .before .before .before .before .before .before .before .before .enum-told2 .given .1) in
-    let so = some-read _ _ (c .before .before .before .before .before .before .before .enum-told4 .given .1) in
-    let head = some-read _ _ (c .before .before .before .before .before .enum-told6 .given .1) in
-    let payload = some-read _ _ (c .before .before .before .enum-told8 .given .1) in
-    let ack = some-read _ _ (c .before .enum-told10 .given .1) in
-    two-after a bo so head payload ack (c .if1 .taken)
+    let a = c .before .before .before .before .before .before .before .before .before .before .before .before .before .before .args .arguments in
+    let bo = some-read _ _ (c .before .before .before .before .before .before .before .before .before .before .before .before .enum-told2 .given .1) in
+    let so = some-read _ _ (c .before .before .before .before .before .before .before .before .before .before .enum-told4 .given .1) in
+    let head = some-read _ _ (c .before .before .before .before .before .before .before .before .enum-told6 .given .1) in
+    let payload = some-read _ _ (c .before .before .before .before .before .before .enum-told8 .given .1) in
+    let ack = some-read _ _ (c .before .before .before .before .enum-told10 .given .1) in
+    c .unreadable6 .ensures ∙ two-at-loss a bo so head payload ack (none-read _ (sym (c .before .before .before .loss-of .ensures) ∙ c .before .enum-told11 .given .1))
+
+enum-told-12 : tie.Need-enum-told-12
+enum-told-12 c = search needs
 
 returns-7 : tie.Need-returns-7
 returns-7 c =
-    let a = c .before .before .before .before .before .before .before .before .before .before .before .args .arguments in
-    let bo = some-read _ _ (c .before .before .before .before .before .before .before .before .before .enum-told2 .given .1) in
-    let so = some-read _ _ (c .before .before .before .before .before .before .before .enum-told4 .given .1) in
-    let head = some-read _ _ (c .before .before .before .before .before .enum-told6 .given .1) in
-    let payload = some-read _ _ (c .before .before .before .enum-told8 .given .1) in
-    let ack = some-read _ _ (c .before .enum-told10 .given .1) in
-    two-kept a bo so head payload ack (c .if1 .left)
+    let a = c .before .before .before .before .before .before .before .before .before .before .before .before .before .before .before .args .arguments in
+    let bo = some-read _ _ (c .before .before .before .before .before .before .before .before .before .before .before .before .before .enum-told2 .given .1) in
+    let so = some-read _ _ (c .before .before .before .before .before .before .before .before .before .before .before .enum-told4 .given .1) in
+    let head = some-read _ _ (c .before .before .before .before .before .before .before .before .before .enum-told6 .given .1) in
+    let payload = some-read _ _ (c .before .before .before .before .before .before .before .enum-told8 .given .1) in
+    let ack = some-read _ _ (c .before .before .before .before .before .enum-told10 .given .1) in
+    let loss = some-read _ _ (sym (c .before .before .before .before .loss-of .ensures) ∙ c .before .before .enum-told12 .given .1) in
+    two-after a bo so head payload ack loss (omega (arith, c .if1 .taken))
+
+returns-8 : tie.Need-returns-8
+returns-8 c =
+    let a = c .before .before .before .before .before .before .before .before .before .before .before .before .before .before .before .args .arguments in
+    let bo = some-read _ _ (c .before .before .before .before .before .before .before .before .before .before .before .before .before .enum-told2 .given .1) in
+    let so = some-read _ _ (c .before .before .before .before .before .before .before .before .before .before .before .enum-told4 .given .1) in
+    let head = some-read _ _ (c .before .before .before .before .before .before .before .before .before .enum-told6 .given .1) in
+    let payload = some-read _ _ (c .before .before .before .before .before .before .before .enum-told8 .given .1) in
+    let ack = some-read _ _ (c .before .before .before .before .before .enum-told10 .given .1) in
+    let loss = some-read _ _ (sym (c .before .before .before .before .loss-of .ensures) ∙ c .before .before .enum-told12 .given .1) in
+    two-kept a bo so head payload ack loss (omega (arith, c .if1 .left))
 
 pub check-arguments-spec : {M : Type 1} → statement M
 check-arguments-spec =
@@ -127,5 +152,10 @@ check-arguments-spec =
     unreadable-requires-5
     returns-5
     enum-told-10
+    loss-of-requires
+    enum-told-11
+    unreadable-requires-6
     returns-6
-    returns-7)
+    enum-told-12
+    returns-7
+    returns-8)

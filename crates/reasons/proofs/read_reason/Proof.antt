@@ -10,10 +10,10 @@ use Rattle.reasons.proofs.read_reason.Statement.{statement}
 use Rattle.reasons.proofs.read_reason.Tie as tie
 
 abbrev Inv-loop : tie.InvT-loop
-Inv-loop line sort₀ sort = (sort ≤ 20) × (readFrom (drop sort sorts) line ≡ readReason line)
+Inv-loop line sort₀ sort = (sort ≤ 21) × (readFrom (drop sort sorts) line ≡ readReason line)
 
 abbrev μ-loop : tie.MeasureT-loop
-μ-loop line sort₀ sort = 20 - sort
+μ-loop line sort₀ sort = 21 - sort
 
 loop-holds : tie.Need-loop-holds Inv-loop μ-loop
 unfolding readReason

@@ -1,27 +1,20 @@
 -- `row::read_named_row` meets its contract. Assumes nothing.
-use Rattle.row.proofs.RowCases.{under-names, under-others}
-use mathlib.Core.Path.{sym, _∙_}
+use mathlib.Core.Path.{ap, _∙_}
+use Rattle.row.specs.declared.Heading.{Heading}
+use Rattle.row.specs.Rows.{rowUnder, namedRow}
 use borrow.Author.Needs.{needs}
 use Rattle.row.proofs.read_named_row.Statement.{statement}
 use Rattle.row.proofs.read_named_row.Tie as tie
 
-names-match-requires : tie.Need-names-match-requires
-names-match-requires c κs = search needs
+heading-of-requires : tie.Need-heading-of-requires
+heading-of-requires c κs = search needs
 
 read-row-requires : tie.Need-read-row-requires
 read-row-requires c κs = search needs
 
 returns : tie.Need-returns
-returns c =
-    let n = c .before .before in
-    let a = n .before .before .before .args in
-    c .read-row .ensures ∙ under-names (a .names .now) (a .row .now) (sym (n .names-match .ensures) ∙ c .before .if1 .taken)
-
-returns-2 : tie.Need-returns-2
-returns-2 c =
-    let n = c .before in
-    let a = n .before .before .before .args in
-    under-others (a .names .now) (a .row .now) (sym (n .names-match .ensures) ∙ c .if1 .left)
+unfolding namedRow
+returns c = c .read-row .ensures ∙ ap (λ (h : Heading). rowUnder h (c .before .before .before .before .args .row .now)) (c .before .heading-of .ensures)
 
 pub read-named-row-spec : {M : Type 1} → statement M
-read-named-row-spec = tie.close (tie.spec names-match-requires read-row-requires returns returns-2)
+read-named-row-spec = tie.close (tie.spec heading-of-requires read-row-requires returns)

@@ -41,6 +41,9 @@ array-read-t35 c = search needs
 array-read-t38 : tie.Need-array-read-t38
 array-read-t38 c = search needs
 
+array-read-t41 : tie.Need-array-read-t41
+array-read-t41 c = search needs
+
 returns : tie.Need-returns
 unfolding settingsOf
 returns c = refl
@@ -61,4 +64,5 @@ settings-of-spec =
     array-read-t32
     array-read-t35
     array-read-t38
+    array-read-t41
     returns)

@@ -9,10 +9,10 @@ use Rattle.rows.proofs.rows.Statement.{statement}
 use Rattle.rows.proofs.rows.Tie as tie
 
 abbrev Inv-loop : tie.InvT-loop
-Inv-loop text cursor₀ cursor = Unit
+Inv-loop heading text cursor₀ cursor = Unit
 
 abbrev μ-loop : tie.MeasureT-loop
-μ-loop text cursor₀ cursor = length text - cursor .at
+μ-loop heading text cursor₀ cursor = length text - cursor .at
 
 loop-holds : tie.Need-loop-holds Inv-loop μ-loop
 loop-holds c = search needs

@@ -8,7 +8,7 @@ use crate::entries::{Answer, LONGEST_TEXT};
 use crate::lent::Lent;
 use reference::lists::{self, Drawn};
 use reference::rows::{self, Answered};
-use reference::{plan_tree, Beside, NAMES};
+use reference::{plan_tree, Beside};
 
 /// Of so many planned lists with short texts one is called with every length from 0 on.
 const ALL_LENGTHS: u64 = 20;
@@ -46,7 +46,7 @@ impl<P: TreePlanner> TreeCalls<'_, P> {
 
     fn compare(&mut self, mut nodes: Lent, beside: &Beside) -> Result<(), String> {
         let outcome = plan_tree(nodes.content(), beside);
-        self.totals.seen.note(&outcome);
+        self.totals.seen.note(beside, &outcome);
         let expected = Expected::planning_tree(&outcome);
         if expected.text().len() > LONGEST_TREE_TEXT {
             return Err("PLANNER_LONGEST_TREE_TEXT is less than the text's length".to_string());
@@ -95,11 +95,12 @@ impl<P: TreePlanner> TreeCalls<'_, P> {
     /// answer to the row. The reference has no part in it.
     pub fn next_row(&mut self) -> Result<(), Differing> {
         let listed = rows::listed(&mut self.caller.rng);
-        let (mut names, mut row, mut list) = (NAMES.as_bytes().to_vec(), listed.row.clone(), listed.list.clone());
+        let mut names = listed.heading.names().as_bytes().to_vec();
+        let (mut row, mut list) = (listed.row.clone(), listed.list.clone());
         let (mut row_text, mut tree_text) = (vec![0; LONGEST_TEXT], vec![0; LONGEST_TREE_TEXT]);
         let of_row = self.caller.planner.plan_row(Some(&mut names), Some(&mut row), Some(&mut row_text));
         let of_tree = self.caller.planner.plan_tree(Some(&mut list), &listed.beside, Some(&mut tree_text));
-        self.totals.note_row(of_row.number);
+        self.totals.note_row(of_row.number, listed.beside.loss);
         let compared = answered(of_row, &row_text)
             .and_then(|of_row| listed.compare(of_row, answered(of_tree, &tree_text)?))
             .map_err(|report| format!("against the row: {report}"));

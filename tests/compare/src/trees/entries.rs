@@ -26,6 +26,7 @@ mod library {
             data: u32,
             ack: u32,
             sink: u32,
+            loss: u32,
         ) -> Answer;
         fn planner_plan_tree(
             nodes: *const u8,
@@ -36,6 +37,7 @@ mod library {
             data: u32,
             ack: u32,
             sink: u32,
+            loss: u32,
             text: *mut u8,
             text_length: usize,
         ) -> Answer;
@@ -48,6 +50,7 @@ mod library {
             data: u32,
             ack: u32,
             sink: u32,
+            loss: u32,
             line: *mut u8,
             line_length: usize,
         ) -> Answer;
@@ -56,9 +59,9 @@ mod library {
     impl TreePlanner for Library {
         fn check_tree(&self, nodes: Memory, beside: &Beside) -> Answer {
             let (nodes, nodes_length) = pointer(nodes);
-            let Beside { beacon_order, superframe_order, head, data, ack, sink } = *beside;
+            let Beside { beacon_order: bo, superframe_order: so, head, data, ack, sink, loss } = *beside;
             // SAFETY: the pointer is valid for the length beside it, or NULL beside 0, which planner.h allows.
-            unsafe { planner_check_tree(nodes, nodes_length, beacon_order, superframe_order, head, data, ack, sink) }
+            unsafe { planner_check_tree(nodes, nodes_length, bo, so, head, data, ack, sink, loss) }
         }
 
         fn plan_tree(&self, nodes: Memory, beside: &Beside, text: Memory) -> Answer {
@@ -71,14 +74,14 @@ mod library {
     }
 
     /// The form of the two entries that put something into a buffer.
-    type Putting = unsafe extern "C" fn(*const u8, usize, u32, u32, u32, u32, u32, u32, *mut u8, usize) -> Answer;
+    type Putting = unsafe extern "C" fn(*const u8, usize, u32, u32, u32, u32, u32, u32, u32, *mut u8, usize) -> Answer;
 
     /// Calls one of the two with a list and a buffer.
     fn lend(entry: Putting, nodes: Memory, beside: &Beside, buffer: Memory) -> Answer {
         let (nodes, length) = pointer(nodes);
         let (buffer, room) = pointer(buffer);
-        let Beside { beacon_order, superframe_order, head, data, ack, sink } = *beside;
+        let Beside { beacon_order: bo, superframe_order: so, head, data, ack, sink, loss } = *beside;
         // SAFETY: as above; the two are different mutable slices, so the buffer does not overlap the list.
-        unsafe { entry(nodes, length, beacon_order, superframe_order, head, data, ack, sink, buffer, room) }
+        unsafe { entry(nodes, length, bo, so, head, data, ack, sink, loss, buffer, room) }
     }
 }

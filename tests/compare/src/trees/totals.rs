@@ -17,8 +17,8 @@ pub struct TreeTotals {
     pub seen: TreeSeen,
     /// Lines that were read, by the number that was to be read; 0 for those that are no reason.
     read: BTreeMap<u32, u64>,
-    /// Rows against which the list of their full tree was held, planned and refused.
-    rows: [u64; 2],
+    /// Rows against which the list of their full tree was held, planned with LOSS 0, planned with another and refused.
+    rows: [u64; 3],
     inputs: u64,
 }
 
@@ -37,10 +37,15 @@ impl TreeTotals {
         *self.read.entry(expected.map_or(0, |(number, _)| number)).or_default() += 1;
     }
 
-    /// Counts a row that was answered with this number.
-    pub fn note_row(&mut self, number: u32) {
+    /// Counts a row with this LOSS that was answered with this number.
+    pub fn note_row(&mut self, number: u32, loss: u32) {
         self.calls += 2;
-        self.rows[usize::from(number != 0)] += 1;
+        let sort = match (number, loss) {
+            (0, 0) => 0,
+            (0, _) => 1,
+            _ => 2,
+        };
+        self.rows[sort] += 1;
     }
 
     /// Counts an input of the program, with this many bytes of output.
@@ -52,7 +57,8 @@ impl TreeTotals {
     /// What can be reached and was not.
     pub fn missing(&self) -> Vec<String> {
         let numbers = (0..=10).filter(|number| !self.read.contains_key(number));
-        let rows = self.rows.iter().zip(["planned", "refused"]).filter(|(count, _)| **count == 0);
+        let sorts = ["planned with LOSS 0", "planned with another LOSS", "refused"];
+        let rows = self.rows.iter().zip(sorts).filter(|(count, _)| **count == 0);
         let mut missing = self.seen.missing();
         missing.extend(numbers.map(|number| format!("a line that reads as number {number}")));
         missing.extend(rows.map(|(_, name)| format!("a row that is {name}")));
@@ -64,9 +70,10 @@ impl TreeTotals {
 impl fmt::Display for TreeTotals {
     fn fmt(&self, out: &mut fmt::Formatter) -> fmt::Result {
         let lines: u64 = self.read.values().sum();
-        let [planned, refused] = self.rows;
+        let [planned, lossy, refused] = self.rows;
         writeln!(out, "{}", self.seen)?;
-        writeln!(out, "lists held against the row of their tree: {planned} planned, {refused} refused")?;
+        write!(out, "lists held against the row of their tree: ")?;
+        writeln!(out, "{planned} planned with LOSS 0, {lossy} with another, {refused} refused")?;
         write!(
             out,
             "lists {}, calls {}, buffers {} (too short: {}), lines read {lines}, inputs {}, bytes compared {}: \
@@ -89,11 +96,15 @@ mod tests {
     fn what_is_missing_is_named() {
         let mut totals = TreeTotals::default();
         let lists = totals.seen.missing().len();
-        assert_eq!(totals.missing().len(), lists + 11 + 2);
+        assert_eq!(totals.missing().len(), lists + 11 + 3);
         totals.note_read(Some((10, 3)));
         totals.note_read(None);
-        totals.note_row(0);
+        totals.note_row(0, 0);
+        assert_eq!(totals.missing().len(), lists + 9 + 2);
+        totals.note_row(0, 3);
         assert_eq!(totals.missing().len(), lists + 9 + 1);
         assert!(totals.missing().contains(&"a row that is refused".to_string()));
+        totals.note_row(4, 3);
+        assert_eq!(totals.missing().len(), lists + 9);
     }
 }

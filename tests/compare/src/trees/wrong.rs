@@ -8,7 +8,7 @@ use crate::difference::Expected;
 use crate::entries::{Answer, Memory, Planner, Refusal};
 use crate::wrong::{put, Wrong};
 use reference::{plan_tree_checking, Beside, TreeOutcome};
-use rules::{Change, Check, Reading};
+use rules::{Change, Check, Reading, Taking};
 use std::cell::RefCell;
 
 /// What becomes of an answer, a list and a buffer after a right call.
@@ -17,6 +17,7 @@ pub type Fault = Box<dyn Fn(&mut Answer, &mut [u8], &mut [u8])>;
 /// Right but for what these do.
 pub struct WrongTree {
     pub reading: Reading,
+    pub taking: Taking,
     pub check: Check,
     pub change: Change,
     pub planning: Fault,
@@ -30,6 +31,7 @@ impl Default for WrongTree {
     fn default() -> WrongTree {
         WrongTree {
             reading: <[u8]>::to_vec,
+            taking: |beside| *beside,
             check: |network| network.check(),
             change: |_, _| (),
             planning: Box::new(|_, _, _| ()),
@@ -44,6 +46,10 @@ impl WrongTree {
         WrongTree { reading, ..WrongTree::default() }
     }
 
+    pub fn taking(taking: Taking) -> WrongTree {
+        WrongTree { taking, ..WrongTree::default() }
+    }
+
     pub fn checking(check: Check) -> WrongTree {
         WrongTree { check, ..WrongTree::default() }
     }
@@ -55,7 +61,7 @@ impl WrongTree {
     /// What the planner makes of a list.
     pub fn outcome(&self, list: &[u8], beside: &Beside) -> TreeOutcome {
         let links = RefCell::new(Vec::new());
-        let mut plan = plan_tree_checking(&(self.reading)(list), beside, |network| {
+        let mut plan = plan_tree_checking(&(self.reading)(list), &(self.taking)(beside), |network| {
             *links.borrow_mut() = network.links();
             (self.check)(network)
         })?;
@@ -113,7 +119,7 @@ pub fn is_found_out(planner: &impl TreePlanner) -> bool {
 }
 
 mod tests {
-    use super::rules::{WRONG_CHECKS, WRONG_LINES, WRONG_READINGS};
+    use super::rules::{WRONG_CHECKS, WRONG_LINES, WRONG_LOSSES, WRONG_READINGS};
     use super::*;
     use crate::difference::TOO_SHORT;
     use reference::lists::{draw, Drawn};
@@ -121,7 +127,7 @@ mod tests {
     use reference::{plan_tree, read_reason, tree_line_of};
 
     /// Of so many drawn lists, so many at least tell a wrong rule apart by number, place or plan.
-    const DRAWN: usize = 4_000;
+    const DRAWN: usize = 6_000;
     const ENOUGH: usize = 10;
 
     fn planning(fault: impl Fn(&mut Answer, &mut [u8], &mut [u8]) + 'static) -> bool {
@@ -154,6 +160,9 @@ mod tests {
         for (name, reading) in WRONG_READINGS {
             assert!(is_found_out(&WrongTree::reading(reading)), "{name}");
         }
+        for (name, taking) in WRONG_LOSSES {
+            assert!(is_found_out(&WrongTree::taking(taking)), "{name}");
+        }
     }
 
     /// Each wrong rule is told apart by many lists, so that no seed lets it pass.
@@ -169,7 +178,8 @@ mod tests {
         let checks = WRONG_CHECKS.map(|(name, check)| (name, WrongTree::checking(check)));
         let lines = WRONG_LINES.map(|(name, change)| (name, WrongTree::changing(change)));
         let readings = WRONG_READINGS.map(|(name, reading)| (name, WrongTree::reading(reading)));
-        for (name, wrong) in checks.into_iter().chain(lines).chain(readings) {
+        let losses = WRONG_LOSSES.map(|(name, taking)| (name, WrongTree::taking(taking)));
+        for (name, wrong) in checks.into_iter().chain(lines).chain(readings).chain(losses) {
             let told = right.iter().zip(answers(&wrong)).filter(|(right, wrong)| *right != wrong).count();
             println!("{name}: {told} of {DRAWN} lists");
             assert!(told >= ENOUGH, "{name}: {told}");
@@ -272,13 +282,15 @@ mod tests {
         assert!(is_found_out(&WrongTree::checking(WRONG_CHECKS[0].1)), "{}", WRONG_CHECKS[0].0);
         assert!(is_found_out(&WrongTree::checking(WRONG_CHECKS[1].1)), "{}", WRONG_CHECKS[1].0);
         assert!(is_found_out(&WrongTree::changing(WRONG_LINES[3].1)), "{}", WRONG_LINES[3].0);
+        assert!(is_found_out(&WrongTree::taking(WRONG_LOSSES[0].1)), "{}", WRONG_LOSSES[0].0);
+        assert!(is_found_out(&WrongTree::taking(WRONG_LOSSES[1].1)), "{}", WRONG_LOSSES[1].0);
     }
 
     /// The line of a list is the one that the reference has for its outcome.
     #[test]
     fn a_right_line() {
         let list = b"NODE PARENT BURST RATE\n1 0 0 0";
-        let beside = Beside { beacon_order: 8, superframe_order: 4, head: 19, data: 7, ack: 0, sink: 2 };
+        let beside = Beside { beacon_order: 8, superframe_order: 4, head: 19, data: 7, ack: 0, sink: 2, loss: 0 };
         let mut line = [b'-'; 40];
         let answer = WrongTree::default().explain_tree(Some(&mut list.to_vec()), &beside, Some(&mut line));
         assert_eq!(answer, Answer { number: 10, place: 0, length: 34 });

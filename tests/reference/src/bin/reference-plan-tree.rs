@@ -1,5 +1,5 @@
-//! Program `plan_tree` of request E3 in this implementation: BO SO HEAD DATA ACK SINK as arguments, a node list from
-//! standard input, the plan or the refusal to standard output.
+//! Program `plan_tree` of request E3 in this implementation: BO SO HEAD DATA ACK SINK and perhaps LOSS as arguments, a
+//! node list from standard input, the plan or the refusal to standard output.
 
 use std::env;
 use std::ffi::OsString;

@@ -17,7 +17,7 @@ const WORDS: [&str; 14] =
 /// A drawn list, mostly with the settings that were drawn with it.
 pub fn input(rng: &mut Rng) -> Input {
     let Drawn { mut list, beside } = draw(rng);
-    let mut arguments = written(&beside);
+    let mut arguments = written(rng, &beside);
     if rng.one_in(4) {
         for _ in 0..rng.pick(&[1, 1, 2]) {
             damage(rng, &mut arguments);
@@ -29,10 +29,15 @@ pub fn input(rng: &mut Rng) -> Input {
     Input { arguments, list }
 }
 
-/// The arguments in the order in which the program takes them.
-fn written(beside: &Beside) -> Vec<Vec<u8>> {
-    let Beside { beacon_order, superframe_order, head, data, ack, sink } = *beside;
-    [beacon_order, superframe_order, head, data, ack, sink].map(|value| value.to_string().into_bytes()).to_vec()
+/// The arguments in the order in which the program takes them. LOSS 0 is left out half the time.
+fn written(rng: &mut Rng, beside: &Beside) -> Vec<Vec<u8>> {
+    let Beside { beacon_order, superframe_order, head, data, ack, sink, loss } = *beside;
+    let values = [beacon_order, superframe_order, head, data, ack, sink, loss];
+    let mut arguments = values.map(|value| value.to_string().into_bytes()).to_vec();
+    if loss == 0 && rng.one_in(2) {
+        arguments.pop();
+    }
+    arguments
 }
 
 /// An argument that is no value, or one too few or too many.
@@ -72,7 +77,8 @@ mod tests {
             *counts.entry(printed.lines().next().unwrap().to_string()).or_default() += 1;
         }
         let header = "KIND DEPTH RATE BURST SLOTS FRAMES LATENCY BUFFER DELAY ROUTE";
-        for line in [header, "R 2 1", "R 2 2", "R 2 10", "R 2 11", "R 2 12", "R 2 13", "R 9 0", "R 10 0", "R 3 1"] {
+        let unreadable = ["R 2 1", "R 2 2", "R 2 10", "R 2 11", "R 2 12", "R 2 13", "R 2 14"];
+        for line in [header, "R 3 1", "R 3 13", "R 4 13", "R 9 0", "R 10 0"].into_iter().chain(unreadable) {
             assert!(counts.get(line).is_some_and(|&count| count >= 10), "{line}: {counts:?}");
         }
     }

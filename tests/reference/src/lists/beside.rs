@@ -1,10 +1,11 @@
 //! The settings and the sink that are given beside a list.
 
 use super::Tree;
-use crate::rows::{draw_octets, Rng};
-use crate::Beside;
+use crate::rows::{draw_octets, draw_tries, Rng};
+use crate::{Beside, Heading};
 
 const MOST_ORDER: u32 = 14;
+const MOST_LOSS: u32 = 7;
 
 /// Settings in their ranges with just room for the routers, more of it, or seldom half of it; and a router as the sink.
 /// Large superframes are preferred, as only they have room for much traffic.
@@ -21,14 +22,15 @@ pub fn fitting(rng: &mut Rng, tree: &Tree) -> Beside {
     with_frame(rng, beacon_order, superframe_order, sink)
 }
 
-/// Every setting anywhere in its range; SO may be above BO.
+/// Every setting anywhere in its range; SO may be above BO, and LOSS above 0 where ACK is 0.
 pub fn anything_in_range(rng: &mut Rng, tree: &Tree) -> Beside {
     let order = |rng: &mut Rng| rng.range(0, u64::from(MOST_ORDER)) as u32;
     let (beacon_order, superframe_order) = (order(rng), order(rng));
     let sink = sink(rng, tree);
     let beside = with_frame(rng, beacon_order, superframe_order, sink);
     if rng.one_in(3) {
-        Beside { head: rng.range(5, 126) as u32, data: rng.range(1, 122) as u32, ..beside }
+        let loss = rng.range(0, u64::from(MOST_LOSS)) as u32;
+        Beside { head: rng.range(5, 126) as u32, data: rng.range(1, 122) as u32, loss, ..beside }
     } else {
         beside
     }
@@ -37,8 +39,10 @@ pub fn anything_in_range(rng: &mut Rng, tree: &Tree) -> Beside {
 fn with_frame(rng: &mut Rng, beacon_order: u32, superframe_order: u32, sink: u32) -> Beside {
     let octets = draw_octets(rng);
     let head = rng.range(5.max(octets.saturating_sub(122)), octets - 1);
-    let ack = rng.below(2) as u32;
-    Beside { beacon_order, superframe_order, head: head as u32, data: (octets - head) as u32, ack, sink }
+    let heading = rng.pick(&Heading::BOTH);
+    let [ack, loss] = draw_tries(rng, heading);
+    let [head, data, ack, loss] = [head, octets - head, ack, loss].map(|value| value as u32);
+    Beside { beacon_order, superframe_order, head, data, ack, sink, loss }
 }
 
 /// A router: often the root or the last one, which is mostly deep.
@@ -70,7 +74,7 @@ pub fn no_sink(rng: &mut Rng, tree: &Tree) -> u32 {
 /// One or two settings outside their ranges, or two at odds. Some of them are within their ranges in their lowest bits.
 pub fn spoil(rng: &mut Rng, beside: &mut Beside) {
     for _ in 0..rng.pick(&[1, 1, 2]) {
-        match rng.below(7) {
+        match rng.below(9) {
             0 => beside.beacon_order = outside(rng, beside.beacon_order, MOST_ORDER),
             1 => beside.superframe_order = outside(rng, beside.superframe_order, MOST_ORDER),
             2 => beside.head = if rng.one_in(3) { rng.below(5) as u32 } else { outside(rng, beside.head, 126) },
@@ -80,6 +84,8 @@ pub fn spoil(rng: &mut Rng, beside: &mut Beside) {
                 beside.beacon_order = rng.range(0, u64::from(MOST_ORDER) - 1) as u32;
                 beside.superframe_order = rng.range(u64::from(beside.beacon_order) + 1, u64::from(MOST_ORDER)) as u32;
             }
+            6 => beside.loss = outside(rng, beside.loss, MOST_LOSS),
+            7 => (beside.ack, beside.loss) = (0, rng.range(1, u64::from(MOST_LOSS)) as u32),
             _ => {
                 beside.head = rng.range(6, 126) as u32;
                 beside.data = rng.range(128 - u64::from(beside.head), 122) as u32;

@@ -1,7 +1,7 @@
 //! "From the line number and place can be had again."
 
 use super::Phrase;
-use crate::NAMES;
+use crate::LOSS_NAMES;
 
 /// Number and place of the refusal whose line this is, given without LF; none where it is no reason. Numbers in it are
 /// written in decimal without leading zeros. They may be of any length, but a place is below 2^32. What they say is not
@@ -28,10 +28,10 @@ fn read_as(phrase: Phrase, mut line: &[u8]) -> Option<(u32, u32)> {
 fn cut_column(line: &[u8]) -> Option<(u32, &[u8])> {
     let end = line.iter().position(|&byte| byte == b' ')?;
     let (word, rest) = line.split_at(end);
-    let named = (1..).zip(NAMES.split(' ')).find(|(_, name)| name.as_bytes() == word);
+    let named = (1..).zip(LOSS_NAMES.split(' ')).find(|(_, name)| name.as_bytes() == word);
     match (named, cut_place(word)) {
         (Some((column, _)), _) => Some((column, rest)),
-        (None, Some((column, []))) if !(1..=12).contains(&column) => Some((column, rest)),
+        (None, Some((column, []))) if !(1..=13).contains(&column) => Some((column, rest)),
         _ => None,
     }
 }
@@ -56,18 +56,21 @@ fn cut_number(line: &[u8]) -> Option<(&[u8], &[u8])> {
 #[cfg(test)]
 mod tests {
     use super::*;
-    use crate::{plan_row, Refusal};
+    use crate::{plan_named_row, Refusal};
 
     fn read(line: &str) -> Option<(u32, u32)> {
         read_reason(line.as_bytes())
     }
 
     /// A line of each number, of each place of number 4, and of both readings of place 7; then those of surveyed trees.
-    const LINES: [(&str, (u32, u32)); 21] = [
+    const LINES: [(&str, (u32, u32)); 25] = [
         ("The line of names differs or is missing.", (1, 0)),
         ("The value of H is unreadable or missing.", (2, 3)),
         ("There is text after the last value, where column 13 would be.", (2, 13)),
+        ("There is text after the last value, where column 14 would be.", (2, 14)),
+        ("The value of LOSS is unreadable or missing.", (2, 13)),
         ("The value of BURST is outside its range: it is 0.", (3, 8)),
+        ("The value of LOSS is outside its range: it is 8.", (3, 13)),
         ("The value of HEAD is outside its range: it is 127.", (3, 10)),
         ("Values are at odds at SO, which may not be above BO: SO is 8 and BO is 4.", (4, 2)),
         ("Values are at odds at NR, which is 0 exactly where H is 0: NR is 0 and H is 1.", (4, 4)),
@@ -75,6 +78,7 @@ mod tests {
         ("Values are at odds at SINK, which may not be above H: SINK is 2 and H is 1.", (4, 7)),
         ("Values are at odds at SINK, which is 0 where NR is below 2: SINK is 1 and NR is 1.", (4, 7)),
         ("Values are at odds at DATA, which with HEAD may not be above 127: HEAD is 120 and DATA is 8.", (4, 11)),
+        ("Values are at odds at LOSS, which is 0 where ACK is 0: LOSS is 3 and ACK is 0.", (4, 13)),
         ("A router would have more than 7 reservations: NE is 4 and NR is 4.", (5, 0)),
         ("There are more routers than superframes that fit a beacon interval: 3 against 2.", (6, 0)),
         ("The slots used at depth 12 are more than can be reserved: 16 used and 15 reservable.", (7, 12)),
@@ -146,16 +150,17 @@ mod tests {
     #[test]
     fn columns_by_name_and_by_number() {
         let at = |column: &str| read(&format!("The value of {column} is unreadable or missing."));
-        for (column, name) in (1..).zip(NAMES.split(' ')) {
+        for (column, name) in (1..).zip(LOSS_NAMES.split(' ')) {
             assert_eq!(at(name), Some((2, column)));
             assert_eq!(at(&column.to_string()), None);
         }
         assert_eq!(at("0"), Some((2, 0)));
-        assert_eq!(at("13"), Some((2, 13)));
         assert_eq!(at("14"), Some((2, 14)));
+        assert_eq!(at("15"), Some((2, 15)));
         assert_eq!(at("4294967295"), Some((2, u32::MAX)));
-        assert_eq!(read("The value of 13 is outside its range: it is 9."), Some((3, 13)));
-        for none in ["", " ", "x", "HEA", "HEADS", "BO SO", "013", "00", "+13", "13x", "-1", "LOSS"] {
+        assert_eq!(read("The value of 14 is outside its range: it is 9."), Some((3, 14)));
+        assert_eq!(read("The value of 13 is outside its range: it is 9."), None);
+        for none in ["", " ", "x", "HEA", "HEADS", "BO SO", "014", "00", "+14", "14x", "-1", "LOS", "LOSSES"] {
             assert_eq!(at(none), None, "{none}");
         }
     }
@@ -208,6 +213,9 @@ mod tests {
             "Values are at odds at SINK, which may not be above H: SINK is 2 and NR is 1.",
             "Values are at odds at SINK, which is 0 where NR is below 2: SINK is 1 and H is 1.",
             "Values are at odds at NE, which is 0 exactly where H is 0: NR is 0 and H is 1.",
+            "Values are at odds at LOSS, which is 0 where NR is below 2: SINK is 1 and NR is 1.",
+            "Values are at odds at ACK, which is 0 where ACK is 0: LOSS is 3 and ACK is 0.",
+            "Values are at odds at LOSS, which is 0 where ACK is 0: ACK is 0 and LOSS is 3.",
             "The value of H is outside its range.",
             "The value of H is unreadable or missing: it is 5.",
             "A router would have more than 8 reservations: NE is 4 and NR is 4.",
@@ -228,7 +236,7 @@ mod tests {
 
     #[test]
     fn every_refusal_reads_back() {
-        let places = [0, 1, 7, 12, 13, 4_294_967_295];
+        let places = [0, 1, 7, 12, 13, 14, 4_294_967_295];
         for phrase in Phrase::OF_ROWS.into_iter().chain(Phrase::OF_TREES) {
             let varies = phrase.words().contains(['@', '%']);
             for place in places.into_iter().filter(|_| varies).chain([phrase.parts().place]) {
@@ -242,7 +250,8 @@ mod tests {
     fn rows_of_all_kinds_read_back() {
         let mut rng = crate::rows::Rng::new(8);
         for _ in 0..20_000 {
-            let outcome = plan_row(&crate::rows::row(&mut rng));
+            let (names, row) = crate::rows::named_row(&mut rng);
+            let outcome = plan_named_row(&names, &row);
             let line = crate::line_of(&outcome);
             assert_eq!(read(&line), outcome.err().map(|refusal| (refusal.number, refusal.place)), "{line}");
         }

@@ -11,6 +11,8 @@ pub const DEEPEST_SINK: u64 = 6;
 
 /// A row with the node list of its full tree, in which the nodes stand in some order.
 pub struct Listed {
+    /// The name line of the row.
+    pub heading: Heading,
     /// The line of values, without its LF.
     pub row: Vec<u8>,
     pub list: Vec<u8>,
@@ -34,23 +36,25 @@ pub struct Answered<'a> {
     pub text: &'a [u8],
 }
 
-/// A row that keeps condition 2 and, but for its settings, conditions 3 and 4; with sinks of all depths.
+/// A row that keeps condition 2 and, but for its settings, conditions 3 and 4; with sinks of all depths, and under both
+/// name lines.
 pub fn listed(rng: &mut Rng) -> Listed {
+    let heading = rng.pick(&Heading::BOTH);
     let sink = rng.range(0, DEEPEST_SINK);
     let shapes: Vec<[u64; 3]> =
         shapes().into_iter().filter(|[h, nr, _]| sink == 0 || (*h >= sink && *nr > 1)).collect();
     let [h, nr, ne] = rng.pick(&shapes);
-    let mut values = [0, 0, h, nr, ne, if ne == 0 { 1 } else { rng.below(2) }, sink, draw_burst(rng), 1, 0, 0, 0];
-    draw_settings(rng, &mut values);
+    let mut values = [0, 0, h, nr, ne, if ne == 0 { 1 } else { rng.below(2) }, sink, draw_burst(rng), 1, 0, 0, 0, 0];
+    draw_settings(rng, heading, &mut values);
     if plans(&values) {
         let fastest = planned::fastest(&values);
         let any = rng.range(1, fastest);
         values[RATE] = rng.pick(&[1, any, fastest, 4095.min(fastest + 1)]);
     }
     if rng.one_in(8) {
-        spoil_settings(rng, &mut values);
+        spoil_settings(rng, heading, &mut values);
     }
-    Listed::new(rng, &values)
+    Listed::new(rng, heading, &values)
 }
 
 /// H, NR and NE of all trees with at most 254 nodes; NE + NR may be above 7.
@@ -66,44 +70,47 @@ fn shapes() -> Vec<[u64; 3]> {
     shapes
 }
 
-/// BO, SO, HEAD, DATA and ACK, often with just room for the routers, seldom with half of it.
-fn draw_settings(rng: &mut Rng, values: &mut Values) {
+/// BO, SO, HEAD, DATA, ACK and LOSS, often with just room for the routers, seldom with half of it.
+fn draw_settings(rng: &mut Rng, heading: Heading, values: &mut Values) {
     let short = u64::from(values[H] > 0 && rng.one_in(16));
     let gap = order_gap(values[H], values[NR]) - short;
     values[SO] = if rng.one_in(2) { MOST_ORDER - gap } else { rng.range(0, MOST_ORDER - gap) };
     values[BO] = if rng.one_in(2) || short == 1 { values[SO] + gap } else { rng.range(values[SO] + gap, MOST_ORDER) };
     let octets = planned::draw_octets(rng);
     set_octets(rng, values, octets);
-    values[ACK] = rng.below(2);
+    [values[ACK], values[LOSS]] = draw_tries(rng, heading);
 }
 
 /// One of the settings outside its range, or two at odds.
-fn spoil_settings(rng: &mut Rng, values: &mut Values) {
-    match rng.below(7) {
+fn spoil_settings(rng: &mut Rng, heading: Heading, values: &mut Values) {
+    let settings = if heading == Heading::WithLoss { 9 } else { 7 };
+    match rng.below(settings) {
         0 => values[BO] = rng.range(15, 9999),
         1 => values[SO] = rng.range(15, 9999),
         2 => values[HEAD] = rng.pick(&[0, 4, 127, 9999]),
         3 => values[DATA] = rng.pick(&[0, 123, 9999]),
         4 => values[ACK] = rng.range(2, 9999),
         5 => (values[BO], values[SO]) = (rng.range(0, 13), 14),
-        _ => (values[HEAD], values[DATA]) = (126, rng.range(2, 122)),
+        6 => (values[HEAD], values[DATA]) = (126, rng.range(2, 122)),
+        7 => values[LOSS] = rng.range(MOST_LOSS + 1, 9999),
+        _ => (values[ACK], values[LOSS]) = (0, rng.range(1, MOST_LOSS)),
     }
 }
 
 impl Listed {
-    fn new(rng: &mut Rng, values: &Values) -> Listed {
+    fn new(rng: &mut Rng, heading: Heading, values: &Values) -> Listed {
         let mut nodes = grow(rng, values);
         let sink = lead_to_sink(rng, &mut nodes, values[SINK]);
-        let settings = [BO, SO, HEAD, DATA, ACK].map(|column| values[column] as u32);
-        let [beacon_order, superframe_order, head, data, ack] = settings;
-        let beside = Beside { beacon_order, superframe_order, head, data, ack, sink };
+        let settings = [BO, SO, HEAD, DATA, ACK, LOSS].map(|column| values[column] as u32);
+        let [beacon_order, superframe_order, head, data, ack, loss] = settings;
+        let beside = Beside { beacon_order, superframe_order, head, data, ack, sink, loss };
         let mut list = LIST_NAMES.to_string();
         for (number, node) in (1..).zip(&nodes) {
             let senses = node.line.0 == 'E' || values[OWN] == 1;
             let [burst, rate] = if senses { [values[BURST], values[RATE]] } else { [0, 0] };
             list.push_str(&format!("\n{number} {} {burst} {rate}", node.parent));
         }
-        Listed { row: written(values), list: list.into_bytes(), beside, nodes }
+        Listed { heading, row: written(heading, values), list: list.into_bytes(), beside, nodes }
     }
 
     /// How the answers to both differ from what they must have in common. The list "is planned exactly when the row
@@ -224,20 +231,25 @@ mod tests {
     fn against_the_row() {
         let mut rng = Rng::new(21);
         let mut planned: BTreeMap<u64, u64> = BTreeMap::new();
+        let mut lossy: BTreeMap<u32, u64> = BTreeMap::new();
         let mut refused: BTreeMap<(u64, u32), u64> = BTreeMap::new();
         for _ in 0..20_000 {
             let listed = listed(&mut rng);
-            let (row, tree) = (plan_row(&listed.row), plan_tree(&listed.list, &listed.beside));
+            let (row, tree) = (plan_row(listed.heading, &listed.row), plan_tree(&listed.list, &listed.beside));
             let [row_text, tree_text] = texts(&row, &tree);
             let compared = listed.compare(answered(&row, &row_text), answered(&tree, &tree_text));
             assert_eq!(compared, Ok(()), "{}", listed.row.escape_ascii());
             let sink = listed.nodes[listed.beside.sink as usize - 1].depth;
             match row {
-                Ok(_) => *planned.entry(sink).or_default() += 1,
+                Ok(_) => {
+                    *planned.entry(sink).or_default() += 1;
+                    *lossy.entry(listed.beside.loss).or_default() += 1;
+                }
                 Err(refusal) => *refused.entry((sink, refusal.number)).or_default() += 1,
             }
         }
-        println!("planned by SINK {planned:?}, refused by SINK and number {refused:?}");
+        println!("planned by SINK {planned:?}, by LOSS {lossy:?}, refused by SINK and number {refused:?}");
+        assert!((0..=MOST_LOSS as u32).all(|loss| lossy[&loss] > 100), "{lossy:?}");
         assert!((0..=DEEPEST_SINK).all(|sink| planned[&sink] > 500), "{planned:?}");
         let numbers = (0..=DEEPEST_SINK).flat_map(|sink| [3, 4, 6, 7].map(|number| (sink, number)));
         assert!(numbers.chain([(0, 5)]).all(|refusal| refused[&refusal] > 20), "{refused:?}");
@@ -250,7 +262,7 @@ mod tests {
         let mut changed = 0;
         while changed < 300 {
             let listed = listed(&mut rng);
-            let (row, tree) = (plan_row(&listed.row), plan_tree(&listed.list, &listed.beside));
+            let (row, tree) = (plan_row(listed.heading, &listed.row), plan_tree(&listed.list, &listed.beside));
             let (Ok(row), Ok(mut tree)) = (row, tree) else { continue };
             let node = rng.index(tree.lines.len());
             let figure = &mut tree.lines[node];
@@ -274,9 +286,9 @@ mod tests {
     #[test]
     fn a_changed_route_or_answer() {
         let mut rng = Rng::new(23);
-        let values = [8, 4, 1, 2, 1, 0, 1, 1, 1, 19, 7, 0];
-        let listed = Listed::new(&mut rng, &values);
-        let (row, tree) = (plan_row(&listed.row), plan_tree(&listed.list, &listed.beside));
+        let values = [8, 4, 1, 2, 1, 0, 1, 1, 1, 19, 7, 0, 0];
+        let listed = Listed::new(&mut rng, Heading::WithoutLoss, &values);
+        let (row, tree) = (plan_row(listed.heading, &listed.row), plan_tree(&listed.list, &listed.beside));
         let [row_text, tree_text] = texts(&row, &tree);
         let (row, tree) = (answered(&row, &row_text), answered(&tree, &tree_text));
         assert_eq!(listed.compare(row, tree), Ok(()));
@@ -295,7 +307,7 @@ mod tests {
         assert!(shapes.contains(&[12, 1, 7]) && shapes.contains(&[0, 0, 0]) && !shapes.contains(&[1, 1, 0]));
         let mut rng = Rng::new(24);
         for [h, nr, ne] in shapes {
-            let nodes = grow(&mut rng, &[14, 0, h, nr, ne, 1, 0, 1, 1, 5, 1, 0]);
+            let nodes = grow(&mut rng, &[14, 0, h, nr, ne, 1, 0, 1, 1, 5, 1, 0, 0]);
             assert!(nodes.len() <= MOST_NODES);
             assert!((1..).zip(&nodes).all(|(number, node)| node.parent < number));
         }

@@ -5,12 +5,12 @@ use crate::settings::RANGES;
 
 /// Rows refused with number 7 at each depth where that can happen, found by the search in `reach`.
 const OVERFULL: [Values; 6] = [
-    [14, 0, 0, 0, 1, 0, 0, 1, 2, 77, 1, 1],
-    [14, 1, 2, 2, 1, 0, 2, 1, 1, 27, 1, 1],
-    [14, 2, 4, 2, 0, 1, 3, 1, 1, 21, 1, 0],
-    [14, 5, 5, 2, 3, 0, 5, 1, 1, 30, 1, 0],
-    [14, 3, 6, 2, 0, 1, 6, 1, 1, 12, 1, 0],
-    [14, 6, 7, 2, 1, 0, 7, 1, 1, 55, 1, 1],
+    [14, 0, 0, 0, 1, 0, 0, 1, 2, 77, 1, 1, 0],
+    [14, 1, 2, 2, 1, 0, 2, 1, 1, 27, 1, 1, 0],
+    [14, 2, 4, 2, 0, 1, 3, 1, 1, 21, 1, 0, 0],
+    [14, 5, 5, 2, 3, 0, 5, 1, 1, 30, 1, 0, 0],
+    [14, 3, 6, 2, 0, 1, 6, 1, 1, 12, 1, 0, 0],
+    [14, 6, 7, 2, 1, 0, 7, 1, 1, 55, 1, 1, 0],
 ];
 
 /// A row refused with number 7, at a depth that other draws seldom reach.
@@ -23,10 +23,10 @@ pub fn overfull(rng: &mut Rng) -> Values {
 }
 
 /// One value outside its range, seldom two.
-pub fn out_of_range(rng: &mut Rng) -> Values {
-    let mut values = planned::planned(rng);
+pub fn out_of_range(rng: &mut Rng, heading: Heading) -> Values {
+    let mut values = planned::planned(rng, heading);
     for _ in 0..rng.pick(&[1, 1, 1, 2]) {
-        let column = rng.index(COLUMNS);
+        let column = rng.index(heading.columns());
         values[column] = outside(rng, RANGES[column]);
     }
     values
@@ -45,16 +45,16 @@ fn outside(rng: &mut Rng, (low, high): (u64, u64)) -> u64 {
 }
 
 /// Values at odds, seldom in two ways, of which the first in the table answers.
-pub fn at_odds(rng: &mut Rng) -> Values {
-    let mut values = planned::planned(rng);
+pub fn at_odds(rng: &mut Rng, heading: Heading) -> Values {
+    let mut values = planned::planned(rng, heading);
     for _ in 0..rng.pick(&[1, 1, 1, 2]) {
-        put_at_odds(rng, &mut values);
+        put_at_odds(rng, heading, &mut values);
     }
     values
 }
 
-fn put_at_odds(rng: &mut Rng, values: &mut Values) {
-    match rng.below(7) {
+fn put_at_odds(rng: &mut Rng, heading: Heading, values: &mut Values) {
+    match rng.below(8) {
         0 => {
             values[BO] = rng.range(0, MOST_ORDER - 1);
             values[SO] = rng.range(values[BO] + 1, MOST_ORDER);
@@ -71,6 +71,7 @@ fn put_at_odds(rng: &mut Rng, values: &mut Values) {
             values[NR] = 1;
             values[SINK] = rng.range(1, values[H]);
         }
+        6 if heading == Heading::WithLoss => (values[ACK], values[LOSS]) = (0, rng.range(1, MOST_LOSS)),
         _ => {
             let octets = if rng.one_in(2) { 128 } else { rng.range(128, 248) };
             set_octets(rng, values, octets);
@@ -79,8 +80,8 @@ fn put_at_odds(rng: &mut Rng, values: &mut Values) {
 }
 
 /// NE + NR of 7, 8 or more.
-pub fn at_reservation_edge(rng: &mut Rng) -> Values {
-    let mut values = planned::planned(rng);
+pub fn at_reservation_edge(rng: &mut Rng, heading: Heading) -> Values {
+    let mut values = planned::planned(rng, heading);
     values[H] = values[H].max(1);
     values[NR] = rng.range(values[NR].max(1), 7);
     values[NE] = match rng.below(3) {
@@ -93,8 +94,8 @@ pub fn at_reservation_edge(rng: &mut Rng) -> Values {
 
 /// A superframe order difference that has just room for the routers, or is one short of it. Where NR = 1 and H + 1 is a
 /// power of 2, or one more than that, the number of routers is at the limit itself.
-pub fn at_router_edge(rng: &mut Rng) -> Values {
-    let mut values = planned::planned(rng);
+pub fn at_router_edge(rng: &mut Rng, heading: Heading) -> Values {
+    let mut values = planned::planned(rng, heading);
     values[H] = rng.pick(&[1, 1, 2, 3, 3, 4, 5, 7, 8, 12]);
     values[NR] = rng.pick(&[1, 1, 1, 2, 2, 3, 4, 5, 6, 7]);
     values[NE] = rng.range(1, 7).min(7 - values[NR]);
@@ -106,7 +107,9 @@ pub fn at_router_edge(rng: &mut Rng) -> Values {
     values
 }
 
-/// Every value anywhere in its range.
-pub fn anything_in_range(rng: &mut Rng) -> Values {
-    RANGES.map(|(low, high)| rng.range(low, high))
+/// Every value of the name line anywhere in its range.
+pub fn anything_in_range(rng: &mut Rng, heading: Heading) -> Values {
+    let mut values = RANGES.map(|(low, high)| rng.range(low, high));
+    values[heading.columns()..].fill(0);
+    values
 }

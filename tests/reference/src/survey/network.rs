@@ -47,8 +47,8 @@ pub struct Superframe {
 impl<'a> Network<'a> {
     /// Finds the routes and the rates. These are at most 254 × 4095.
     pub(super) fn new(nodes: &'a [Node], sink: usize, settings: &'a Settings) -> Network<'a> {
-        let Settings { beacon_order, superframe_order, octets, acknowledged, .. } = *settings;
-        let air = Air::new(beacon_order, superframe_order, octets, acknowledged);
+        let Settings { beacon_order, superframe_order, octets, acknowledged, loss, .. } = *settings;
+        let air = Air::new(beacon_order, superframe_order, octets, acknowledged, loss);
         let mut children = vec![Vec::new(); nodes.len()];
         for (node, parent) in nodes.iter().enumerate().filter_map(|(node, line)| Some((node, line.parent?))) {
             children[parent].push(node);
@@ -157,7 +157,7 @@ mod tests {
     use crate::{plan_tree, Beside, Superframe, LIST_NAMES};
 
     /// X = S = 60: a link has as many slots as its rate. A router with reservations may reserve 7.
-    const EVEN: Beside = Beside { beacon_order: 8, superframe_order: 0, head: 17, data: 1, ack: 0, sink: 1 };
+    const EVEN: Beside = Beside { beacon_order: 8, superframe_order: 0, head: 17, data: 1, ack: 0, sink: 1, loss: 0 };
 
     /// The list of nodes of these parents and rates; the bursts are 1.
     fn list(nodes: &[(u32, u32)]) -> Vec<u8> {
@@ -272,6 +272,16 @@ mod tests {
             assert_eq!(refusal(&[(0, 0), (1, most)], beside), None);
             assert_eq!(refusal(&[(0, 0), (1, most + 1)], beside), Some((7, 1, [slots + 1, slots])));
         }
+    }
+
+    /// M = 18 acknowledged: X = 94, and with LOSS 0 to 3 an exchange lasts 94, 208, 322 and 436, which take 2, 4, 6 and
+    /// 8 slots of 60.
+    #[test]
+    fn condition_7_with_failed_tries() {
+        let with_loss = |loss| refusal(&[(0, 0), (1, 1)], Beside { ack: 1, loss, ..EVEN });
+        assert_eq!([0, 1, 2].map(with_loss), [None; 3]);
+        assert_eq!(with_loss(3), Some((7, 1, [8, 7])));
+        assert_eq!(superframes(&[(0, 0), (1, 1), (1, 1)], Beside { ack: 1, loss: 1, ..EVEN }), [(1, 2, 4 + 4, 7)]);
     }
 
     /// The root's superframe has the leaf's link of 3 slots and the root's own downward one, of 4 or 5.

@@ -106,9 +106,13 @@ mod tests {
     use crate::{plan_tree, write_tree_plan, Beside, LIST_NAMES};
 
     fn planned(nodes: &[&str], settings: [u32; 6]) -> Vec<String> {
+        planned_with(nodes, settings, 0)
+    }
+
+    fn planned_with(nodes: &[&str], settings: [u32; 6], loss: u32) -> Vec<String> {
         let [beacon_order, superframe_order, head, data, ack, sink] = settings;
         let list = [&[LIST_NAMES], nodes].concat().join("\n");
-        let beside = Beside { beacon_order, superframe_order, head, data, ack, sink };
+        let beside = Beside { beacon_order, superframe_order, head, data, ack, sink, loss };
         let mut text = Vec::new();
         write_tree_plan(&plan_tree(list.as_bytes(), &beside).unwrap(), &mut text);
         let lines: Vec<String> = String::from_utf8(text).unwrap().lines().map(str::to_string).collect();
@@ -155,6 +159,22 @@ mod tests {
             ]
         );
         assert_eq!(largest_route(&lines), 953_227);
+    }
+
+    /// P1's tree acknowledged, with the figures of the row: X = 138, with LOSS 1 an exchange of 296, with LOSS 7 one of
+    /// 1,244.
+    #[test]
+    fn p1_with_failed_tries() {
+        let lines = planned_with(&P1, [8, 4, 19, 7, 1, 1], 1);
+        let router = "U 1 1 491224 1 3 245464 3 409206 409206";
+        let far = "E 2 1 245760 1 3 245464 2 327384 736590";
+        let near = "E 1 1 245760 1 3 245464 2 327384 327384";
+        assert_eq!(lines, ["S 0 3 1964600 0 0 0 8 0 0", router, router, near, far, far]);
+        let lines = planned_with(&P1, [8, 4, 19, 7, 1, 1], 7);
+        let router = "U 1 1 492764 2 1 247004 4 739768 739768";
+        let far = "E 2 1 245760 2 1 247004 3 492764 1232532";
+        let near = "E 1 1 245760 2 1 247004 3 492764 492764";
+        assert_eq!(lines, ["S 0 3 1972300 0 0 0 9 0 0", router, router, near, far, far]);
     }
 
     /// BI = 7680, S = 120, X = 60: k = 1 holds 2 frames with T = BI, and k = 2 holds 4 with T = BI − 120 = 7560. The

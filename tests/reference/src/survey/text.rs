@@ -9,10 +9,12 @@ const HEADER: &[u8] = b"KIND DEPTH RATE BURST SLOTS FRAMES LATENCY BUFFER DELAY 
 
 /// Arguments of `plan_tree` before the sink's node, with their columns in document 01: BO, SO, HEAD, DATA, ACK.
 const COLUMNS: [u32; 5] = [1, 2, 10, 11, 12];
-/// The arguments and the sink's node.
-const ARGUMENTS: usize = COLUMNS.len() + 1;
-/// The place of "text after the last".
-const AFTER_LAST: u32 = 13;
+/// Where the arguments have the sink's node and, behind it, LOSS.
+const SINK: usize = COLUMNS.len();
+const LOSS: usize = SINK + 1;
+/// The column of LOSS, and the place of "text after the last".
+const LOSS_COLUMN: u32 = 13;
+const AFTER_LAST: u32 = 14;
 
 /// Appends the text of a plan, header line included, each line ended by LF.
 pub fn write_tree_plan(plan: &TreePlan, out: &mut Vec<u8>) {
@@ -24,7 +26,8 @@ pub fn write_tree_plan(plan: &TreePlan, out: &mut Vec<u8>) {
     }
 }
 
-/// What program `plan_tree` prints for these arguments, BO SO HEAD DATA ACK SINK, and this standard input.
+/// What program `plan_tree` prints for these arguments, BO SO HEAD DATA ACK SINK and perhaps LOSS, and this standard
+/// input.
 pub fn tree_program(arguments: &[&[u8]], input: &[u8]) -> Vec<u8> {
     let mut out = Vec::new();
     match plan_input(arguments, input) {
@@ -41,7 +44,7 @@ fn plan_input(arguments: &[&[u8]], input: &[u8]) -> TreeOutcome {
         return Err(Refusal::without_values(Phrase::Input, 0));
     }
     let nodes = list::read(input)?;
-    let number = read_argument(arguments, ARGUMENTS - 1).unwrap_or(0);
+    let number = read_argument(arguments, SINK).unwrap_or(0);
     let sink = list::find_sink(&nodes, number)?;
     let settings = super::settle(&read_settings(arguments, number)?)?;
     let network = Network::new(&nodes, sink, &settings);
@@ -49,18 +52,21 @@ fn plan_input(arguments: &[&[u8]], input: &[u8]) -> TreeOutcome {
     Ok(network.plan())
 }
 
-/// Number 2: the lowest column that cannot be read or is missing, then an argument after the last.
+/// Number 2: the lowest column that cannot be read or is missing, then an argument after the last. LOSS is 0 where it
+/// is not given.
 fn read_settings(arguments: &[&[u8]], sink: u32) -> Result<Beside, Refusal> {
     let mut values = [0; COLUMNS.len()];
     for (index, (value, column)) in values.iter_mut().zip(COLUMNS).enumerate() {
         let refusal = || Refusal::without_values(Phrase::Value, column);
         *value = read_argument(arguments, index).ok_or_else(refusal)?;
     }
-    if arguments.len() > ARGUMENTS {
+    let unreadable = || Refusal::without_values(Phrase::Value, LOSS_COLUMN);
+    let loss = if arguments.len() > LOSS { read_argument(arguments, LOSS).ok_or_else(unreadable)? } else { 0 };
+    if arguments.len() > LOSS + 1 {
         return Err(Refusal::without_values(Phrase::TextAfter, AFTER_LAST));
     }
     let [beacon_order, superframe_order, head, data, ack] = values;
-    Ok(Beside { beacon_order, superframe_order, head, data, ack, sink })
+    Ok(Beside { beacon_order, superframe_order, head, data, ack, sink, loss })
 }
 
 /// An argument that is a value as document 01 has them.
@@ -89,6 +95,17 @@ mod tests {
     fn a_plan() {
         assert_eq!(printed("2 1 5 13 0 1", LIST), PLAN);
         assert_eq!(printed("2 1 5 13 0 1", LIST.trim_end()), PLAN);
+        assert_eq!(printed("2 1 5 13 0 1 0", LIST), PLAN);
+    }
+
+    /// X = 94 with acknowledgement; with LOSS 1 an exchange lasts 94 + 114 = 208, which takes two slots of 120 and has
+    /// T = BI + 208.
+    #[test]
+    fn a_plan_with_failed_tries() {
+        let plan = "KIND DEPTH RATE BURST SLOTS FRAMES LATENCY BUFFER DELAY ROUTE\n\
+                    S 0 1 7888 0 0 0 3 0 0\n\
+                    E 1 1 3840 2 1 4048 3 7888 7888\n";
+        assert_eq!(printed("2 1 5 13 1 1 1", LIST), plan);
     }
 
     #[test]
@@ -121,7 +138,13 @@ mod tests {
         assert_eq!(printed("2 1 5 x x 1 x", LIST), "R 2 11\n");
         assert_eq!(printed("2 1 5 13 x 1 x", LIST), "R 2 12\n");
         assert_eq!(printed("2 1 5 13 0 1 x", LIST), "R 2 13\n");
+        assert_eq!(printed("2 1 5 13 0 1 x x", LIST), "R 2 13\n");
         assert_eq!(printed("2 1 5 13 0 1 ", LIST), "R 2 13\n", "an empty seventh argument");
+        assert_eq!(printed("2 1 5 13 0 1 01", LIST), "R 2 13\n");
+        assert_eq!(printed("2 1 5 13 0 1 10000", LIST), "R 2 13\n");
+        assert_eq!(printed("2 1 5 13 0 1 0 x", LIST), "R 2 14\n");
+        assert_eq!(printed("2 1 5 13 0 1 0 ", LIST), "R 2 14\n", "an empty eighth argument");
+        assert_eq!(printed("99 1 5 13 9 1 9 0 0", LIST), "R 2 14\n");
         for value in ["", "01", "00", "10000", "+1", "-1", "1.", " ", "0x"] {
             let arguments = [&b"99"[..], value.as_bytes(), b"5", b"13", b"9", b"1"];
             assert_eq!(tree_program(&arguments, LIST.as_bytes()), b"R 2 2\n", "{value}");
@@ -136,7 +159,10 @@ mod tests {
         assert_eq!(printed("2 3 5 0 2 1", LIST), "R 3 11\n");
         assert_eq!(printed("2 3 5 1 2 1", LIST), "R 3 12\n");
         assert_eq!(printed("2 3 126 2 1 1", LIST), "R 4 2\n");
+        assert_eq!(printed("2 3 5 1 1 1 8", LIST), "R 3 13\n");
         assert_eq!(printed("2 2 126 2 1 1", LIST), "R 4 11\n");
+        assert_eq!(printed("2 2 126 2 0 1 1", LIST), "R 4 11\n");
+        assert_eq!(printed("2 2 126 1 0 1 1", LIST), "R 4 13\n");
         assert_eq!(printed("1 1 5 13 0 1", &LIST.replace("2 1 1 1", "2 1 1 1\n3 2 1 1")), "R 6 0\n");
         assert_eq!(printed("2 1 5 13 0 1", &LIST.replace("2 1 1 1", "2 1 1 4095")), "R 7 1\n");
         let leaves: String = (3..=9).map(|node| format!("{node} 1 1 1\n")).collect();

@@ -1,14 +1,15 @@
-//! `attack SEED RUNS [PRINTED]`: RUNS runs over the fixed list of rows, first the directed ones (all of
-//! them, however small RUNS is) and then drawn ones, held against the right plan: the one in file PRINTED, if given, which must agree
-//! with the own figures line by line. The same runs are held against five wrong plans, each of which
-//! must be found out.
-//! `attack drawn SEED ROWS`: the directed runs and some drawn ones over so many drawn rows, held against
-//! the own figures.
+//! `attack SEED RUNS [PRINTED]`: RUNS runs over the fixed list of rows, first the directed ones (all
+//! of them, however small RUNS is) and then drawn ones, held against the right plan: the one in file
+//! PRINTED, if given, which must agree with the own figures line by line. The same runs are held
+//! against six wrong plans, each of which must be found out. There must be runs with every LOSS.
+//! `attack drawn SEED ROWS`: the directed runs and some drawn ones over so many drawn rows, held
+//! against the own figures.
 //! `attack rows`: the list of rows as an input of program `plan`.
 //! `attack plans`: what program `plan` should print for them.
-//! `attack trees SEED RUNS [FOLDER]`: the same with surveyed trees, the fixed ones and drawn ones, or those
-//! of FOLDER with the plans that stand there; and with four wrong plans.
-//! `attack lists SEED FOLDER`: writes the fixed and drawn trees there, as inputs of program `plan_tree`.
+//! `attack trees SEED RUNS [FOLDER]`: the same with surveyed trees, the fixed ones and drawn ones, or
+//! those of FOLDER with the plans that stand there; and with five wrong plans.
+//! `attack lists SEED FOLDER`: writes the fixed and drawn trees there, as inputs of program
+//! `plan_tree`.
 
 use std::path::Path;
 use std::process::ExitCode;
@@ -127,12 +128,20 @@ fn attack_rows(seed: &str, runs: &str, path: Option<&str>) -> Result<(), String>
     let mut attack = Attack::new(cases, Chance::new(seed));
     attack.all(runs)?;
     print!("{}", attack.tally.text());
-    let left = attack.tally.survivors();
-    if !left.is_empty() {
-        return Err(format!("wrong figures that no run found out: {left:?}"));
-    }
+    check_tally(&attack.tally.survivors(), &attack.tally.untried())?;
     if !different.is_empty() {
         return Err(format!("printed and own figures differ on {} rows", different.len()));
+    }
+    Ok(())
+}
+
+/// Every wrong version was found out, and there were runs with every LOSS.
+fn check_tally<V: std::fmt::Debug>(survivors: &[V], untried: &[u64]) -> Result<(), String> {
+    if !survivors.is_empty() {
+        return Err(format!("wrong figures that no run found out: {survivors:?}"));
+    }
+    if !untried.is_empty() {
+        return Err(format!("no run with all failed tries that may be with LOSS {untried:?}"));
     }
     Ok(())
 }
@@ -190,10 +199,7 @@ fn attack_trees(seed: &str, runs: &str, folder: Option<&str>) -> Result<(), Stri
     let mut attack = surveys::attack::Attack::new(cases, Chance::new(seed));
     attack.all(runs)?;
     print!("{}", attack.tally.text());
-    let left = attack.tally.survivors();
-    if !left.is_empty() {
-        return Err(format!("wrong figures that no run found out: {left:?}"));
-    }
+    check_tally(&attack.tally.survivors(), &attack.tally.untried())?;
     if different > 0 {
         return Err(format!("printed and own figures differ on {different} trees"));
     }

@@ -95,8 +95,8 @@ fn aimed(case: &Case, method: Method, chance: &mut Chance) -> Result<Aim, String
     aim::aim(&case.survey.row(), &case.right.links, &case.survey, method.windows, chance)
 }
 
-/// A drawn setup: windows, patterns and ties of all kinds, often with all sensors in the same symbol or
-/// some of them silent.
+/// A drawn setup: windows, patterns, ties and failed tries of all kinds, often with all sensors in the
+/// same symbol or some of them silent.
 pub fn drawn_setup(case: &Case, chance: &mut Chance) -> Result<Setup<Survey>, String> {
     let method = attack::drawn_method(chance);
     let mut aim = aimed(case, method, chance)?;
@@ -106,10 +106,10 @@ pub fn drawn_setup(case: &Case, chance: &mut Chance) -> Result<Setup<Survey>, St
     Ok(setup)
 }
 
-/// Offsets, readings of all sensors, each within its own bucket, and ties.
+/// Offsets, readings of all sensors, each within its own bucket, ties and failed tries.
 fn setup(case: &Case, aim: Aim, method: Method, frames: u64, chance: &mut Chance) -> Setup<Survey> {
     let survey = &case.survey;
     let buckets: Vec<_> = survey.sensors().into_iter().map(|sensor| (sensor, survey.bucket(sensor))).collect();
     let readings = attack::all_readings(&buckets, &aim, method, frames, chance);
-    Setup { tree: survey.clone(), offsets: aim.offsets, readings, ties: method.ties }
+    Setup { tree: survey.clone(), offsets: aim.offsets, readings, ties: method.ties, failures: method.failures }
 }

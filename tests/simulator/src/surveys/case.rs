@@ -62,13 +62,16 @@ impl Case {
     }
 
     /// Runs a setup. It must keep each node's own token bucket; then the run goes on until one symbol
-    /// after the largest ROUTE from the last reading on, by when every frame must be at the sink.
+    /// after the largest ROUTE from the last reading on, by when every frame must be at the sink. The
+    /// tries of each exchange must be over when it is.
     pub fn run(&self, setup: &Setup<Survey>) -> Result<Outcome, String> {
         self.survey.check(&setup.readings)?;
         let links = link::links(&self.survey.row(), &self.right.links, &self.survey, &setup.offsets)?;
         let last_reading = setup.readings.iter().map(|reading| reading.symbol).max().unwrap_or(0);
         let last = last_reading.checked_add(self.right.links.delay).and_then(|sum| sum.checked_add(1));
-        Ok(run::run(&links, setup, last.ok_or("a delay too large")?))
+        let outcome = run::run(&links, setup, last.ok_or("a delay too large")?);
+        outcome.check_tries()?;
+        Ok(outcome)
     }
 
     /// Holds figures against a run: for each claim, in the order of the list, the reach that is largest
@@ -79,7 +82,8 @@ impl Case {
         Ok([ends, up, down, delay, stretch, route_reach(promises, outcome), lost_reach(outcome)])
     }
 
-    /// All that is needed to make a run again: settings, list, links and offsets, ties, readings.
+    /// All that is needed to make a run again: settings, list, links and offsets, ties, failed tries,
+    /// readings.
     pub fn describe(&self, setup: &Setup<Survey>) -> String {
         let mut text = format!("settings {}\n{}", self.survey.settings(), self.survey.list());
         for (node, way) in self.survey.ways().into_iter().enumerate() {
@@ -88,7 +92,8 @@ impl Case {
                 text += &format!("  node {number}: line {} to node {next}, offset {offset}\n", way.line.0);
             }
         }
-        text += &format!("ties {:?}\nreadings, as symbol, node, count\n", setup.ties);
+        text += &format!("ties {:?}, failed tries {:?}\n", setup.ties, setup.failures);
+        text += "readings, as symbol, node, count\n";
         for reading in &setup.readings {
             text += &format!("  {} {} {}\n", reading.symbol, reading.sensor + 1, reading.count);
         }
@@ -123,6 +128,7 @@ fn lost_reach(outcome: &Outcome) -> Reach {
 #[cfg(test)]
 mod tests {
     use super::*;
+    use crate::failures::Failures;
     use crate::setup::Reading;
     use crate::ties::Ties;
 
@@ -138,7 +144,8 @@ mod tests {
     fn over(case: &Case, readings: &[(u64, usize, u64)]) -> Vec<Claim> {
         let reading = |&(symbol, sensor, count): &(u64, usize, u64)| Reading { symbol, sensor, count };
         let readings = readings.iter().map(reading).collect();
-        let setup = Setup { tree: case.survey.clone(), offsets: vec![0, 60, 60, 60], readings, ties: Ties::OldestLast };
+        let (tree, offsets, failures) = (case.survey.clone(), vec![0, 60, 60, 60], Failures::Always);
+        let setup = Setup { tree, offsets, readings, ties: Ties::OldestLast, failures };
         let outcome = case.run(&setup).expect("a run");
         let reaches = case.hold(&case.right, &outcome).expect("held");
         reaches.into_iter().filter(Reach::is_over).map(|reach| reach.claim).collect()
@@ -192,6 +199,7 @@ mod tests {
             offsets: vec![0, 60, 60, 60],
             readings: vec![Reading { symbol: 5, sensor: 2, count }],
             ties: Ties::OldestLast,
+            failures: Failures::Always,
         };
         assert!(case.run(&setup(1)).is_ok() && case.run(&setup(2)).is_err());
         assert!(case.run(&Setup { offsets: vec![0, 60, 3721, 60], ..setup(1) }).is_err());

@@ -31,7 +31,9 @@ pub fn any(chance: &mut Chance) -> Survey {
     let least = 5.max(octets.saturating_sub(122));
     let head = least + chance.up_to(octets - 1 - least);
     let sink = if chance.once_in(3) { 0 } else { routers[chance.index(routers.len())] };
-    Survey { bo, so, head, data: octets - head, ack: chance.up_to(1), sink, nodes }
+    let ack = chance.up_to(1);
+    let loss = if ack == 1 && !chance.once_in(3) { 1 + chance.up_to(6) } else { 0 };
+    Survey { bo, so, head, data: octets - head, ack, sink, loss, nodes }
 }
 
 /// Chains, stars, combs, bushy and arbitrary trees; most of them small, some with all nodes that a list
@@ -89,12 +91,12 @@ mod tests {
     use std::collections::BTreeMap;
 
     /// What is drawn can be read back; it is planned and refused in all ways, with sinks at and below the
-    /// root.
+    /// root, and with traffic whose tries may fail.
     #[test]
     fn of_all_kinds() {
         let mut chance = Chance::new(61);
         let mut answers: BTreeMap<u64, u64> = BTreeMap::new();
-        let (mut below, mut silent) = (0, 0);
+        let (mut below, mut silent, mut lossy) = (0, 0, 0);
         for _ in 0..2_000 {
             let survey = any(&mut chance);
             assert_eq!(Survey::read(&survey.list(), &survey.settings()), Ok(survey.clone()));
@@ -103,6 +105,7 @@ mod tests {
                 Answer::Plan(lines) => {
                     below += u64::from(survey.sink > 0);
                     silent += u64::from(lines.iter().any(|line| line.line.rate == 0));
+                    lossy += u64::from(survey.loss > 0 && lines.iter().any(|line| line.line.frames > 0));
                     0
                 }
                 Answer::Refused(number, _) => number,
@@ -110,6 +113,6 @@ mod tests {
             *answers.entry(number).or_default() += 1;
         }
         assert!([0, 5, 7].iter().all(|number| answers[number] > 50), "{answers:?}");
-        assert!(below > 200 && silent > 100, "{below} {silent}");
+        assert!(below > 200 && silent > 100 && lossy > 100, "{below} {silent} {lossy}");
     }
 }

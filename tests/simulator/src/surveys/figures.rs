@@ -1,6 +1,7 @@
-//! The plan of a surveyed tree, worked out here independently of any other planner, with four
-//! deliberately wrong versions. A parent has a smaller number than its children, so that loads are
-//! added up from the last node to the first, and then down the path to the sink.
+//! The plan of a surveyed tree, worked out here independently of any other planner, with five
+//! deliberately wrong versions. X is the time of an exchange with its failed tries (request E5). A
+//! parent has a smaller number than its children, so that loads are added up from the last node to
+//! the first, and then down the path to the sink.
 //!
 //! Arithmetic is in u128; a tree has at most 254 × 4095 frames per interval, and bursts are made only
 //! after the checks.
@@ -22,10 +23,13 @@ pub enum Version {
     BurstKept,
     /// The sink's BURST lower by one frame.
     SinkLow,
+    /// FRAMES and what follows from them as if no try failed, in the same slots.
+    NoFailures,
 }
 
-/// The four wrong versions.
-pub const WRONG: [Version; 4] = [Version::BufferLow, Version::RouteLow, Version::BurstKept, Version::SinkLow];
+/// The five wrong versions.
+pub const WRONG: [Version; 5] =
+    [Version::BufferLow, Version::RouteLow, Version::BurstKept, Version::SinkLow, Version::NoFailures];
 
 /// A node's line: the columns of document 01 and ROUTE.
 #[derive(Clone, Debug, PartialEq, Eq)]
@@ -101,6 +105,9 @@ fn refusal(survey: &Survey, rates: &Rates) -> Option<(u64, u64)> {
     if survey.head + survey.data > 127 {
         return Some((4, 11));
     }
+    if survey.loss > 0 && survey.ack == 0 {
+        return Some((4, 13));
+    }
     let routers: Vec<usize> = (0..survey.nodes.len()).filter(|node| survey.is_router(*node)).collect();
     if routers.len() > 1 << (survey.bo - survey.so) {
         return Some((6, 0));
@@ -152,9 +159,10 @@ fn next_nodes(survey: &Survey) -> Vec<usize> {
 }
 
 /// T and m of a link.
-fn link(survey: &Survey, rate: u128) -> (u128, u128) {
+fn link(survey: &Survey, rate: u128, version: Version) -> (u128, u128) {
     let row = survey.row();
-    let (interval, exchange) = (u128::from(air::interval(&row)), u128::from(air::exchange(&row)));
+    let exchange = if version == Version::NoFailures { air::good_try(&row) } else { air::exchange(&row) };
+    let (interval, exchange) = (u128::from(air::interval(&row)), u128::from(exchange));
     let frames = slots_for(survey, rate) * u128::from(air::slot(&row)) / exchange;
     (interval + 2 * exchange - frames * exchange, frames)
 }
@@ -164,7 +172,7 @@ fn after(survey: &Survey, rate: u128, burst: u128, version: Version) -> u128 {
     if rate == 0 || version == Version::BurstKept {
         burst
     } else {
-        burst + rate * link(survey, rate).0
+        burst + rate * link(survey, rate, version).0
     }
 }
 
@@ -186,7 +194,7 @@ fn line(survey: &Survey, rate: u128, burst: u128, node: usize, version: Version)
             line.burst = burst.saturating_sub(interval);
         }
     } else if rate > 0 {
-        let (latency, frames) = link(survey, rate);
+        let (latency, frames) = link(survey, rate, version);
         let full = burst + rate * latency;
         let low = version == Version::BufferLow && full.is_multiple_of(interval);
         line.slots = slots_for(survey, rate);
@@ -228,6 +236,19 @@ mod tests {
         assert_eq!(planned(P1, "8 4 19 7 0 2"), format!("{HEADER}{downward}"));
     }
 
+    /// P1 acknowledged, as the row with LOSS 1 and 7 is planned.
+    #[test]
+    fn first_plan_with_failed_tries() {
+        let upward = "S 0 3 1964600 0 0 0 8 0 0\n\
+                      U 1 1 491224 1 3 245464 3 409206 409206\n\
+                      U 1 1 491224 1 3 245464 3 409206 409206\n\
+                      E 1 1 245760 1 3 245464 2 327384 327384\n\
+                      E 2 1 245760 1 3 245464 2 327384 736590\n\
+                      E 2 1 245760 1 3 245464 2 327384 736590\n";
+        assert_eq!(planned(P1, "8 4 19 7 1 1 1"), format!("{HEADER}{upward}"));
+        assert!(planned(P1, "8 4 19 7 1 1 7").contains("\nE 2 1 245760 2 1 247004 3 492764 1232532\n"));
+    }
+
     /// Links without traffic, upward and downward, have zeros, and no part in the checks.
     #[test]
     fn silent() {
@@ -255,6 +276,8 @@ mod tests {
         };
         assert_eq!(planned(P1, "3 4 19 7 0 1"), "R 4 2\n");
         assert_eq!(planned(P1, "8 4 126 2 0 1"), "R 4 11\n");
+        assert_eq!(planned(P1, "8 4 126 2 0 1 1"), "R 4 11\n");
+        assert_eq!(planned(P1, "8 4 126 1 0 1 1"), "R 4 13\n");
         assert_eq!(planned(P1, "5 4 19 7 0 1"), "R 6 0\n");
         assert!(planned(&list(&[(0, 0), (1, 7)]), "8 0 5 13 0 1").starts_with("KIND"));
         assert_eq!(planned(&list(&[(0, 0), (1, 8)]), "8 0 5 13 0 1"), "R 7 1\n");
@@ -271,7 +294,8 @@ mod tests {
     /// Every wrong version differs from the right one, and reserves the same slots.
     #[test]
     fn versions_differ() {
-        let survey = Survey::read("NODE PARENT BURST RATE\n1 0 0 0\n2 1 1 1\n", "1 1 5 13 0 1").expect("a survey");
+        // Two exchanges of 208 symbols in 4 slots of 120: T = BI.
+        let survey = Survey::read("NODE PARENT BURST RATE\n1 0 0 0\n2 1 1 2\n", "1 1 5 13 1 1 1").expect("a survey");
         let Answer::Plan(right) = answer(&survey, Version::Right) else { panic!("planned") };
         for version in WRONG {
             let Answer::Plan(wrong) = answer(&survey, version) else { panic!("planned") };

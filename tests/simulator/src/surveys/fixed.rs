@@ -27,7 +27,15 @@ const WRITTEN: &[Written] = &[
     ("8 4 19 7 1 2", &[(0, 0, 0), (1, 0, 0), (2, 0, 0), (1, 0, 0)]),
     ("8 4 19 7 1 2", &[(0, 0, 0), (1, 0, 0), (2, 0, 0), (1, 9, 2)]),
     ("8 4 19 7 1 2", &[(0, 0, 0), (1, 0, 0), (2, 9, 2), (1, 0, 0)]),
-    // Refused: 6, 5 and 7 at a router below the root, 4 twice.
+    // Tries that may fail: P1 and P2 with LOSS 1 and 7, one link with m = 2 and T = BI, with m = 1, and the
+    // uneven tree with its sink below.
+    ("8 4 19 7 1 1 1", &[(0, 0, 0), (1, 0, 0), (1, 0, 0), (1, 1, 1), (2, 1, 1), (3, 1, 1)]),
+    ("8 4 19 7 1 2 7", &[(0, 0, 0), (1, 0, 0), (1, 0, 0), (1, 1, 1), (2, 1, 1), (3, 1, 1)]),
+    ("1 1 5 13 1 1 1", &[(0, 0, 0), (1, 1, 2)]),
+    ("0 0 5 1 1 1 3", &[(0, 0, 0), (1, 1, 1)]),
+    ("6 3 5 13 1 5 2", &[(0, 2, 1), (1, 0, 0), (2, 1, 2), (1, 0, 0), (2, 3, 1), (5, 1, 1)]),
+    ("8 6 5 13 1 2 6", &[(0, 2, 1), (1, 0, 0), (2, 1, 2), (1, 0, 0), (2, 3, 1), (5, 1, 1)]),
+    // Refused: 6, 5 and 7 at a router below the root, 4 three times.
     ("1 0 5 1 0 1", &[(0, 1, 1), (1, 1, 1), (2, 1, 1), (3, 1, 1)]),
     (
         "8 4 5 1 0 1",
@@ -36,6 +44,7 @@ const WRITTEN: &[Written] = &[
     ("8 0 18 1 0 1", &[(0, 0, 0), (1, 0, 0), (2, 1, 1), (2, 1, 1), (2, 1, 1), (2, 1, 1)]),
     ("4 8 5 1 0 1", &[(0, 1, 1)]),
     ("8 4 126 2 0 1", &[(0, 1, 1)]),
+    ("8 4 126 1 0 1 2", &[(0, 1, 1)]),
 ];
 
 /// Full trees with more frames in their bursts, or more nodes, are left out.
@@ -65,8 +74,8 @@ pub fn of_row(row: &Row) -> Option<Survey> {
     };
     let nodes: Vec<Node> = tree.nodes.iter().map(node).collect();
     let bursts: u64 = nodes.iter().map(|node| node.burst).sum();
-    let Row { bo, so, head, data, ack, .. } = *row;
-    let survey = Survey { bo, so, head, data, ack, sink: tree.sink, nodes };
+    let Row { bo, so, head, data, ack, loss, .. } = *row;
+    let survey = Survey { bo, so, head, data, ack, sink: tree.sink, loss, nodes };
     (bursts <= BURSTS && survey.is_router(tree.sink)).then_some(survey)
 }
 
@@ -86,8 +95,8 @@ mod tests {
                 Answer::Plan(_) => None,
             })
             .collect();
-        assert!(refused[..WRITTEN.len() - 5].iter().all(Option::is_none));
-        assert_eq!(refused[WRITTEN.len() - 5..], [(6, 0), (5, 2), (7, 2), (4, 2), (4, 11)].map(Some));
+        assert!(refused[..WRITTEN.len() - 6].iter().all(Option::is_none));
+        assert_eq!(refused[WRITTEN.len() - 6..], [(6, 0), (5, 2), (7, 2), (4, 2), (4, 11), (4, 13)].map(Some));
     }
 
     /// Against the row: if every router of the full tree has end nodes, or the root is its only router,

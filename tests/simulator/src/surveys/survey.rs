@@ -25,6 +25,7 @@ pub struct Survey {
     pub data: u64,
     pub ack: u64,
     pub sink: usize,
+    pub loss: u64,
     pub nodes: Vec<Node>,
 }
 
@@ -36,12 +37,15 @@ impl Survey {
         if lines.next() != Some(NAMES) {
             return Err("no line of names".into());
         }
-        let values = numbers(settings.trim_end())?;
-        let [bo, so, head, data, ack, sink] =
-            <[u64; 6]>::try_from(values).map_err(|_| format!("not six values: {settings:?}"))?;
+        let mut values = numbers(settings.trim_end())?;
+        if values.len() == 6 {
+            values.push(0);
+        }
+        let [bo, so, head, data, ack, sink, loss] =
+            <[u64; 7]>::try_from(values).map_err(|_| format!("neither six nor seven values: {settings:?}"))?;
         let nodes = lines.enumerate().map(|(index, line)| node(index, line)).collect::<Result<Vec<Node>, String>>()?;
         let sink = (sink as usize).checked_sub(1).ok_or("no sink")?;
-        let survey = Survey { bo, so, head, data, ack, sink, nodes };
+        let survey = Survey { bo, so, head, data, ack, sink, loss, nodes };
         if survey.is_router(sink) {
             Ok(survey)
         } else {
@@ -59,16 +63,21 @@ impl Survey {
         text
     }
 
-    /// BO SO HEAD DATA ACK SINK, as program `plan_tree` takes them.
+    /// BO SO HEAD DATA ACK SINK and, where it is not 0, LOSS, as program `plan_tree` takes them.
     pub fn settings(&self) -> String {
-        let Survey { bo, so, head, data, ack, sink, .. } = self;
-        format!("{bo} {so} {head} {data} {ack} {}", sink + 1)
+        let Survey { bo, so, head, data, ack, sink, loss, .. } = self;
+        let without_loss = format!("{bo} {so} {head} {data} {ack} {}", sink + 1);
+        if *loss == 0 {
+            without_loss
+        } else {
+            format!("{without_loss} {loss}")
+        }
     }
 
     /// The settings as a row, for all that looks at nothing else in a row.
     pub fn row(&self) -> Row {
-        let Survey { bo, so, head, data, ack, .. } = *self;
-        Row { bo, so, h: 0, nr: 0, ne: 0, own: 1, sink: 0, burst: 0, rate: 0, head, data, ack }
+        let Survey { bo, so, head, data, ack, loss, .. } = *self;
+        Row { bo, so, h: 0, nr: 0, ne: 0, own: 1, sink: 0, burst: 0, rate: 0, head, data, ack, loss }
     }
 
     /// The settings and the token bucket of a node as a row.
@@ -160,12 +169,16 @@ mod tests {
     fn read_and_written() {
         let survey = Survey::read(LIST, "8 4 19 7 0 2\n").expect("a survey");
         assert_eq!(survey.list(), LIST);
-        assert_eq!(survey.settings(), "8 4 19 7 0 2");
+        assert_eq!((survey.settings().as_str(), survey.loss), ("8 4 19 7 0 2", 0));
+        let lossy = Survey::read(LIST, "8 4 19 7 1 2 7").expect("a survey");
+        assert_eq!((lossy.settings().as_str(), lossy.loss, lossy.row().loss), ("8 4 19 7 1 2 7", 7, 7));
+        assert_eq!(Survey::read(LIST, "8 4 19 7 0 2 0"), Ok(survey.clone()));
         assert_eq!((survey.sink, survey.sensors(), survey.path()), (1, vec![2, 3], vec![1, 0]));
         for (good, bad) in [("2 1 0 0", "2 2 0 0"), ("3 1 3 2", "3 1 3 0"), ("5 2", "6 2"), ("NODE", "NODES")] {
             assert!(Survey::read(&LIST.replace(good, bad), "8 4 19 7 0 2").is_err(), "{bad}");
         }
-        for bad in ["8 4 19 7 0", "8 4 19 7 0 3", "8 4 19 7 0 0", "8 4 19 7 0 x"] {
+        for bad in ["8 4 19 7 0", "8 4 19 7 0 3", "8 4 19 7 0 0", "8 4 19 7 0 x", "8 4 19 7 1 2 x", "8 4 19 7 1 2 0 0"]
+        {
             assert!(Survey::read(LIST, bad).is_err(), "{bad}");
         }
     }

@@ -30,7 +30,7 @@ pub type Tally = tally::Tally<Closest, Broken>;
 impl Tally {
     /// Takes a run of the tree with this number that kept the right figures.
     pub fn take(&mut self, number: usize, case: &Case, outcome: &Outcome, reaches: &[Reach; 7]) -> Result<(), String> {
-        self.count(outcome);
+        self.count(case.survey.loss, outcome);
         self.closest.take(&case.survey, reaches);
         for (version, promises) in &case.wrong {
             self.take_wrong(*version, &number, &case.hold(promises, outcome)?);

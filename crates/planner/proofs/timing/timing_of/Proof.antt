@@ -13,11 +13,11 @@ beacon-interval-requires c κs = search needs
 slot-length-requires : tie.Need-slot-length-requires
 slot-length-requires c κs = search needs
 
-exchange-time-requires : tie.Need-exchange-time-requires
-exchange-time-requires c κs = search needs
+lossy-exchange-time-requires : tie.Need-lossy-exchange-time-requires
+lossy-exchange-time-requires c κs = search needs
 
 returns : tie.Need-returns
-returns c = timing-made (c .before .before .before .before .before .args .s) _ _ _ _ (c .before .before .before .before .sum .ensures) (c .before .before .before .beacon-interval .ensures) (c .before .before .slot-length .ensures) (c .exchange-time .ensures)
+returns c = timing-made (c .before .before .before .before .before .args .s) _ _ _ _ (c .before .before .before .before .sum .ensures) (c .before .before .before .beacon-interval .ensures) (c .before .before .slot-length .ensures) (c .lossy-exchange-time .ensures)
 
 pub timing-of-spec : {M : Type 1} → statement M
 timing-of-spec =
@@ -26,5 +26,5 @@ timing-of-spec =
     sum-requires
     beacon-interval-requires
     slot-length-requires
-    exchange-time-requires
+    lossy-exchange-time-requires
     returns)

@@ -29,7 +29,7 @@ returns c =
     let a = c .before .before .before .before .before .before .args in
     let w = c .before .before .plan-tree in
     let e = w .ensures .0 ∙ ap (λ (s : Settings). answer treeText (outcomeIn (a .nodes .now) s (a .sink))) (c .before .before .before .before .beside .ensures) in
-    let b = beside (a .bo) (a .so) (a .head) (a .payload) (a .ack) in
+    let b = beside (a .bo) (a .so) (a .head) (a .payload) (a .ack) (a .loss) in
     (plan-told treeText (outcomeIn (a .nodes .now) b (a .sink)) (w .result) e _ (c .answer-of .ensures), told-short treeText (outcomeIn (a .nodes .now) b (a .sink)) (w .result) e 48576 _ (c .answer-of .ensures) (w .ensures .1 .0))
 
 pub planner-check-tree-spec : {M : Type 1} → statement M

@@ -51,7 +51,7 @@ returns : tie.Need-returns
 unfolding explainTree checkTree treeSpoken
 returns c =
     let a = c .before .before .before .before .before .before .before .before .before .before .before .before .before .before .before .args in
-    let b = beside (a .bo) (a .so) (a .head) (a .payload) (a .ack) in
+    let b = beside (a .bo) (a .so) (a .head) (a .payload) (a .ack) (a .loss) in
     let plan = c .before .before .before .before .before .before .before .before .before .before .plan-tree in
     let q = plan .ensures .0 ∙ ap (λ (s : Settings). answer treeText (outcomeIn (a .nodes .now) s (a .sink))) (c .before .before .before .before .before .before .before .before .before .before .before .before .beside .ensures) in
     let t = plan-told treeText (outcomeIn (a .nodes .now) b (a .sink)) (plan .result) q _ (c .before .before .before .before .before .before .before .before .answer-of .ensures) in

@@ -29,7 +29,7 @@ same-length c = search needs
 returns : tie.Need-returns
 returns c =
     let a = c .before .before .before .before .before .before .before .before .args in
-    let b = beside (a .bo) (a .so) (a .head) (a .payload) (a .ack) in
+    let b = beside (a .bo) (a .so) (a .head) (a .payload) (a .ack) (a .loss) in
     let e = c .before .before .plan-where-room .ensures ∙ ap (λ (s : Settings). planTree (a .nodes .now) s (a .sink) (a .out .now)) (c .before .before .before .before .before .beside .ensures) in
     (e, promised-tree-left (a .nodes .now) b (a .sink) (a .out .now) _ _ e)
 
@@ -46,7 +46,7 @@ returns-2 : tie.Need-returns-2
 unfolding planTree outcomeIn
 returns-2 c =
     let a = c .before .before .before .before .before .before .before .before .before .args in
-    let b = beside (a .bo) (a .so) (a .head) (a .payload) (a .ack) in
+    let b = beside (a .bo) (a .so) (a .head) (a .payload) (a .ack) (a .loss) in
     let w = c .before .before .before .plan-tree in
     let q = w .ensures .0 ∙ ap (λ (s : Settings). answer treeText (outcomeIn (a .nodes .now) s (a .sink))) (c .before .before .before .before .before .before .beside .ensures) in
     let p = w .ensures .1 .1 .0 ∙ ap (λ (s : Settings). sets (a .out .now) 0 (written treeText (outcomeIn (a .nodes .now) s (a .sink)))) (c .before .before .before .before .before .before .beside .ensures) in

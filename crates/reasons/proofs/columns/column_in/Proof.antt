@@ -4,7 +4,7 @@ use Prim.Native.Nat.{suc, _-_, _≤_}
 use native.Mathlib.Omega.{arith}
 use native.Mathlib.Numerals.{add-one}
 use lib.ListN.{drop}
-use Rattle.settings.specs.Columns.{table}
+use Rattle.settings.specs.Columns.{twelve, table}
 use Rattle.reasons.specs.declared.Match.the-variants.{At}
 use Rattle.reasons.specs.Reading.{placeIn, columnFrom, unnamed, columnIn}
 use Rattle.reasons.proofs.ColumnNames.{column-found, column-later, column-none}
@@ -13,10 +13,10 @@ use Rattle.reasons.proofs.columns.column_in.Statement.{statement}
 use Rattle.reasons.proofs.columns.column_in.Tie as tie
 
 abbrev Inv-loop : tie.InvT-loop
-Inv-loop word k₀ k = (k ≤ 12) × (columnFrom (unnamed (placeIn word)) (suc k) (drop k table) word ≡ columnIn word)
+Inv-loop word k₀ k = (k ≤ 13) × (columnFrom (unnamed (placeIn word)) (suc k) (drop k table) word ≡ columnIn word)
 
 abbrev μ-loop : tie.MeasureT-loop
-μ-loop word k₀ k = 12 - k
+μ-loop word k₀ k = 13 - k
 
 loop-holds : tie.Need-loop-holds Inv-loop μ-loop
 unfolding columnIn
@@ -62,9 +62,9 @@ returns-2 : tie.Need-returns-2 Inv-loop μ-loop
 returns-2 c =
     let w = c .before .before .before .before .before .args .word .now in
     let l = c .before .before .before .loop in
-    let z : l .k ≡ 12 = omega (arith, l .inv .0, c .before .before .loop-test .left) in
+    let z : l .k ≡ 13 = omega (arith, l .inv .0, c .before .before .loop-test .left) in
     let e = rw z at (l .inv .1) in
-    c .without-name .ensures ∙ ap unnamed (c .before .place-in .ensures) ∙ sym (column-none (unnamed (placeIn w)) w 13) ∙ e
+    c .without-name .ensures ∙ ap unnamed (c .before .place-in .ensures) ∙ sym (column-none (unnamed (placeIn w)) w 14) ∙ e
 
 pub column-in-spec : {M : Type 1} → statement M
 column-in-spec =

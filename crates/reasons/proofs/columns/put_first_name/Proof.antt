@@ -2,7 +2,7 @@
 use mathlib.Core.Path.{_≡_}
 use native.Mathlib.Omega.{arith}
 use Rattle.decimal.specs.Ascii.{ascii}
-use Rattle.settings.specs.Columns.{table, columnAt}
+use Rattle.settings.specs.Columns.{twelve, table, columnAt}
 use Rattle.reasons.specs.Reasons.{named, columnName}
 use borrow.Author.Needs.{needs}
 use Rattle.reasons.proofs.columns.put_first_name.Statement.{statement}
@@ -18,7 +18,7 @@ same-length : tie.Need-same-length
 same-length c = search needs
 
 returns : tie.Need-returns
-unfolding columnName named table columnAt ascii
+unfolding columnName named twelve table columnAt ascii
 returns c =
     let z : c .before .before .before .before .before .before .before .args .column ≡ 1 = omega arith in
     rw z (c .before .before .put-bytes .ensures)
@@ -33,7 +33,7 @@ same-length-2 : tie.Need-same-length-2
 same-length-2 c = search needs
 
 returns-2 : tie.Need-returns-2
-unfolding columnName named table columnAt ascii
+unfolding columnName named twelve table columnAt ascii
 returns-2 c =
     let z : c .before .before .before .before .before .before .before .before .args .column ≡ 2 = omega arith in
     rw z (c .before .before .put-bytes2 .ensures)
@@ -48,7 +48,7 @@ same-length-3 : tie.Need-same-length-3
 same-length-3 c = search needs
 
 returns-3 : tie.Need-returns-3
-unfolding columnName named table columnAt ascii
+unfolding columnName named twelve table columnAt ascii
 returns-3 c =
     let z : c .before .before .before .before .before .before .before .before .before .args .column ≡ 3 = omega arith in
     rw z (c .before .before .put-bytes3 .ensures)
@@ -63,7 +63,7 @@ same-length-4 : tie.Need-same-length-4
 same-length-4 c = search needs
 
 returns-4 : tie.Need-returns-4
-unfolding columnName named table columnAt ascii
+unfolding columnName named twelve table columnAt ascii
 returns-4 c =
     let z : c .before .before .before .before .before .before .before .before .before .before .args .column ≡ 4 = omega arith in
     rw z (c .before .before .put-bytes4 .ensures)
@@ -78,7 +78,7 @@ same-length-5 : tie.Need-same-length-5
 same-length-5 c = search needs
 
 returns-5 : tie.Need-returns-5
-unfolding columnName named table columnAt ascii
+unfolding columnName named twelve table columnAt ascii
 returns-5 c =
     let z : c .before .before .before .before .before .before .before .before .before .before .before .args .column ≡ 5 = omega arith in
     rw z (c .before .before .put-bytes5 .ensures)
@@ -93,7 +93,7 @@ same-length-6 : tie.Need-same-length-6
 same-length-6 c = search needs
 
 returns-6 : tie.Need-returns-6
-unfolding columnName named table columnAt ascii
+unfolding columnName named twelve table columnAt ascii
 returns-6 c =
     let z : c .before .before .before .before .before .before .before .before .before .before .before .args .column ≡ 6 = omega arith in
     rw z (c .before .before .put-bytes6 .ensures)

@@ -41,6 +41,12 @@ enum-known-conflict-6 c = search needs
 worded-requires-6 : tie.Need-worded-requires-6
 worded-requires-6 c κs = search needs
 
+enum-known-conflict-7 : tie.Need-enum-known-conflict-7
+enum-known-conflict-7 c = search needs
+
+worded-requires-7 : tie.Need-worded-requires-7
+worded-requires-7 c κs = search needs
+
 returns : tie.Need-returns
 unfolding wording sortOf conflictSort valuesOf valuesAtOdds
 returns c = rw (c .before .before .conflict .given .1) (c .worded .ensures)
@@ -65,6 +71,10 @@ returns-6 : tie.Need-returns-6
 unfolding wording sortOf conflictSort valuesOf valuesAtOdds
 returns-6 c = rw (c .before .before .conflict6 .given .1) (c .worded6 .ensures)
 
+returns-7 : tie.Need-returns-7
+unfolding wording sortOf conflictSort valuesOf valuesAtOdds
+returns-7 c = rw (c .before .before .conflict7 .given .1) (c .worded7 .ensures)
+
 pub conflict-wording-spec : {M : Type 1} → statement M
 conflict-wording-spec =
     tie.close
@@ -81,9 +91,12 @@ conflict-wording-spec =
     worded-requires-5
     enum-known-conflict-6
     worded-requires-6
+    enum-known-conflict-7
+    worded-requires-7
     returns
     returns-2
     returns-3
     returns-4
     returns-5
-    returns-6)
+    returns-6
+    returns-7)

@@ -3,7 +3,7 @@ use mathlib.Core.Path.{_≡_}
 use native.Mathlib.Omega.{arith}
 use Rattle.decimal.specs.Ascii.{ascii}
 use Rattle.refusals.specs.Refusals.{conflictPlace}
-use Rattle.settings.specs.Columns.{table, columnAt}
+use Rattle.settings.specs.Columns.{twelve, table, columnAt}
 use Rattle.reasons.specs.Reasons.{named, columnName, ruleOf, phraseOf}
 use Rattle.reasons.specs.Reading.{sorts}
 use Rattle.reasons.specs.Inner.{sortAt, phraseAt}
@@ -21,7 +21,7 @@ same-length : tie.Need-same-length
 same-length c = search needs
 
 returns : tie.Need-returns
-unfolding phraseAt sortAt sorts phraseOf ruleOf conflictPlace columnName named table columnAt ascii
+unfolding phraseAt sortAt sorts phraseOf ruleOf conflictPlace columnName named twelve table columnAt ascii
 returns c =
     let z : c .before .before .before .before .before .before .before .args .sort ≡ 4 = omega arith in
     let e = c .before .before .put-bytes .ensures in
@@ -38,7 +38,7 @@ same-length-2 : tie.Need-same-length-2
 same-length-2 c = search needs
 
 returns-2 : tie.Need-returns-2
-unfolding phraseAt sortAt sorts phraseOf ruleOf conflictPlace columnName named table columnAt ascii
+unfolding phraseAt sortAt sorts phraseOf ruleOf conflictPlace columnName named twelve table columnAt ascii
 returns-2 c =
     let z : c .before .before .before .before .before .before .before .before .args .sort ≡ 5 = omega arith in
     let e = c .before .before .put-bytes2 .ensures in
@@ -55,7 +55,7 @@ same-length-3 : tie.Need-same-length-3
 same-length-3 c = search needs
 
 returns-3 : tie.Need-returns-3
-unfolding phraseAt sortAt sorts phraseOf ruleOf conflictPlace columnName named table columnAt ascii
+unfolding phraseAt sortAt sorts phraseOf ruleOf conflictPlace columnName named twelve table columnAt ascii
 returns-3 c =
     let z : c .before .before .before .before .before .before .before .before .before .args .sort ≡ 6 = omega arith in
     let e = c .before .before .put-bytes3 .ensures in
@@ -72,7 +72,7 @@ same-length-4 : tie.Need-same-length-4
 same-length-4 c = search needs
 
 returns-4 : tie.Need-returns-4
-unfolding phraseAt sortAt sorts phraseOf ruleOf conflictPlace columnName named table columnAt ascii
+unfolding phraseAt sortAt sorts phraseOf ruleOf conflictPlace columnName named twelve table columnAt ascii
 returns-4 c =
     let z : c .before .before .before .before .before .before .before .before .before .before .args .sort ≡ 7 = omega arith in
     let e = c .before .before .put-bytes4 .ensures in
@@ -89,7 +89,7 @@ same-length-5 : tie.Need-same-length-5
 same-length-5 c = search needs
 
 returns-5 : tie.Need-returns-5
-unfolding phraseAt sortAt sorts phraseOf ruleOf conflictPlace columnName named table columnAt ascii
+unfolding phraseAt sortAt sorts phraseOf ruleOf conflictPlace columnName named twelve table columnAt ascii
 returns-5 c =
     let z : c .before .before .before .before .before .before .before .before .before .before .before .args .sort ≡ 8 = omega arith in
     let e = c .before .before .put-bytes5 .ensures in
@@ -106,11 +106,28 @@ same-length-6 : tie.Need-same-length-6
 same-length-6 c = search needs
 
 returns-6 : tie.Need-returns-6
-unfolding phraseAt sortAt sorts phraseOf ruleOf conflictPlace columnName named table columnAt ascii
+unfolding phraseAt sortAt sorts phraseOf ruleOf conflictPlace columnName named twelve table columnAt ascii
 returns-6 c =
-    let z : c .before .before .before .before .before .before .before .before .before .before .before .args .sort ≡ 9 = omega arith in
+    let z : c .before .before .before .before .before .before .before .before .before .before .before .before .args .sort ≡ 9 = omega arith in
     let e = c .before .before .put-bytes6 .ensures in
     let l : c .before .before .put-bytes6 .result ≡ 90 = e .0 in
+    rw z (e .0, (omega (arith, l), e .1))
+
+slice-aggregate-put-bytes-7 : tie.Need-slice-aggregate-put-bytes-7
+slice-aggregate-put-bytes-7 c = search needs
+
+put-bytes-requires-7 : tie.Need-put-bytes-requires-7
+put-bytes-requires-7 c κs = search needs
+
+same-length-7 : tie.Need-same-length-7
+same-length-7 c = search needs
+
+returns-7 : tie.Need-returns-7
+unfolding phraseAt sortAt sorts phraseOf ruleOf conflictPlace columnName named twelve table columnAt ascii
+returns-7 c =
+    let z : c .before .before .before .before .before .before .before .before .before .before .before .before .args .sort ≡ 10 = omega arith in
+    let e = c .before .before .put-bytes7 .ensures in
+    let l : c .before .before .put-bytes7 .result ≡ 78 = e .0 in
     rw z (e .0, (omega (arith, l), e .1))
 
 pub put-odds-phrase-spec : {M : Type 1} → statement M
@@ -140,4 +157,8 @@ put-odds-phrase-spec =
     slice-aggregate-put-bytes-6
     put-bytes-requires-6
     same-length-6
-    returns-6)
+    returns-6
+    slice-aggregate-put-bytes-7
+    put-bytes-requires-7
+    same-length-7
+    returns-7)

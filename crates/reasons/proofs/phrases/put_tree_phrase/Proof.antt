@@ -21,7 +21,7 @@ same-length c = search needs
 returns : tie.Need-returns
 unfolding phraseAt sortAt sorts treePhrase phraseOf ascii
 returns c =
-    let z : c .before .before .before .before .before .before .before .args .sort ≡ 15 = omega arith in
+    let z : c .before .before .before .before .before .before .before .args .sort ≡ 16 = omega arith in
     let e = c .before .before .put-bytes .ensures in
     let l : c .before .before .put-bytes .result ≡ 57 = e .0 in
     rw z (e .0, (omega (arith, l), e .1))
@@ -38,7 +38,7 @@ same-length-2 c = search needs
 returns-2 : tie.Need-returns-2
 unfolding phraseAt sortAt sorts treePhrase phraseOf ascii
 returns-2 c =
-    let z : c .before .before .before .before .before .before .before .before .args .sort ≡ 16 = omega arith in
+    let z : c .before .before .before .before .before .before .before .before .args .sort ≡ 17 = omega arith in
     let e = c .before .before .put-bytes2 .ensures in
     let l : c .before .before .put-bytes2 .result ≡ 52 = e .0 in
     rw z (e .0, (omega (arith, l), e .1))
@@ -55,7 +55,7 @@ same-length-3 c = search needs
 returns-3 : tie.Need-returns-3
 unfolding phraseAt sortAt sorts treePhrase phraseOf ascii
 returns-3 c =
-    let z : c .before .before .before .before .before .before .before .before .before .args .sort ≡ 17 = omega arith in
+    let z : c .before .before .before .before .before .before .before .before .before .args .sort ≡ 18 = omega arith in
     let e = c .before .before .put-bytes3 .ensures in
     let l : c .before .before .put-bytes3 .result ≡ 34 = e .0 in
     rw z (e .0, (omega (arith, l), e .1))
@@ -72,7 +72,7 @@ same-length-4 c = search needs
 returns-4 : tie.Need-returns-4
 unfolding phraseAt sortAt sorts treePhrase phraseOf ascii
 returns-4 c =
-    let z : c .before .before .before .before .before .before .before .before .before .before .args .sort ≡ 18 = omega arith in
+    let z : c .before .before .before .before .before .before .before .before .before .before .args .sort ≡ 19 = omega arith in
     let e = c .before .before .put-bytes4 .ensures in
     let l : c .before .before .put-bytes4 .result ≡ 62 = e .0 in
     rw z (e .0, (omega (arith, l), e .1))
@@ -89,7 +89,7 @@ same-length-5 c = search needs
 returns-5 : tie.Need-returns-5
 unfolding phraseAt sortAt sorts treePhrase phraseOf ascii
 returns-5 c =
-    let z : c .before .before .before .before .before .before .before .before .before .before .args .sort ≡ 19 = omega arith in
+    let z : c .before .before .before .before .before .before .before .before .before .before .args .sort ≡ 20 = omega arith in
     let e = c .before .before .put-bytes5 .ensures in
     let l : c .before .before .put-bytes5 .result ≡ 82 = e .0 in
     rw z (e .0, (omega (arith, l), e .1))

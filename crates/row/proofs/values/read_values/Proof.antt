@@ -1,22 +1,29 @@
 -- `row::values::read_values` meets its contract. Assumes nothing.
-use mathlib.Core.Path.{refl, sym, _∙_}
+use mathlib.Core.Path.{_≡_, refl, sym, _∙_}
+use mathlib.Core.List.{List}
 use Prim.Native.Nat.{_-_}
 use native.Mathlib.Omega.{arith}
 use borrow.Author.Needs.{needs}
+use lib.ListN.{length}
+use Rattle.settings.specs.Columns.{Column}
 use Rattle.lines.proofs.LineLaws.{found-in-rest}
 use Rattle.refusals.proofs.Answering.{broken-kept}
-use Rattle.row.proofs.Taking.{Taken, taken-none, taken-missing, taken-unreadable, taken-value, taken-after, taken-all}
+use Rattle.row.specs.Names.{columnsUnder}
+use Rattle.row.proofs.Taking.{Taken, zeros-read, taken-none, taken-missing, taken-unreadable, taken-value, taken-after, taken-all, taken-settings}
 use Rattle.row.proofs.values.read_values.Statement.{statement}
 use Rattle.row.proofs.values.read_values.Tie as tie
 
 abbrev Inv-loop : tie.InvT-loop
-Inv-loop row numbers₀ at₀ k₀ numbers at k = Taken row numbers at k
+Inv-loop row columns numbers₀ at₀ k₀ numbers at k = (cs : List Column) → columns ≡ length cs → Taken cs row numbers at k
 
 abbrev μ-loop : tie.MeasureT-loop
-μ-loop row numbers₀ at₀ k₀ numbers at k = 12 - k
+μ-loop row columns numbers₀ at₀ k₀ numbers at k = columns - k
+
+column-count-requires : tie.Need-column-count-requires Inv-loop μ-loop
+column-count-requires c κs = search needs
 
 loop-holds : tie.Need-loop-holds Inv-loop μ-loop
-loop-holds c = taken-none (c .before .args .row .now) _ refl
+loop-holds c = λ cs e. taken-none cs (c .before .before .args .row .now) _ refl zeros-read
 
 unreadable-requires : tie.Need-unreadable-requires Inv-loop μ-loop
 unreadable-requires c κs = search needs
@@ -24,8 +31,10 @@ unreadable-requires c κs = search needs
 returns : tie.Need-returns Inv-loop μ-loop
 returns c =
     let l = c .before .before .before .loop in
-    let row = c .before .before .before .before .before .args .row .now in
-    let e = taken-missing row (l .numbers) (l .at) (l .k) (l .inv) (c .before .before .loop-test .taken) (omega (arith, c .before .if1 .taken)) in
+    let k = c .before .before .before .before .column-count .ensures in
+    let row = c .before .before .before .before .before .before .args .row .now in
+    let cs = columnsUnder (c .before .before .before .before .before .before .args .heading) in
+    let e = taken-missing cs (omega (arith, k .0, k .1)) row (l .numbers) (l .at) (l .k) (l .inv cs (k .0)) (omega (arith, k .0, c .before .before .loop-test .taken)) (omega (arith, c .before .if1 .taken)) in
     let u = c .unreadable .ensures in
     (u ∙ sym e, λ kept. broken-kept _ (sym u ∙ kept))
 
@@ -55,13 +64,14 @@ unreadable-requires-2 c κs = search needs
 
 returns-2 : tie.Need-returns-2 Inv-loop μ-loop
 returns-2 c =
-    let b = c .before .before .before in
-    let l = b .before .before .before .before .before .loop in
-    let row = b .before .before .before .before .before .before .before .args .row .now in
-    let end = b .before .before .find .result in
-    let f = found-in-rest 32 row (l .at) end (b .before .before .find .ensures .0) in
-    let n = sym (b .read-number .ensures) ∙ c .before .enum-told .given .1 in
-    let e = taken-unreadable row (l .numbers) (l .at) (l .k) (l .inv) (b .before .before .before .before .loop-test .taken) (b .before .before .before .if1 .left) end f n in
+    let l = c .before .before .before .before .before .before .before .before .loop in
+    let k = c .before .before .before .before .before .before .before .before .before .column-count .ensures in
+    let row = c .before .before .before .before .before .before .before .before .before .before .before .args .row .now in
+    let cs = columnsUnder (c .before .before .before .before .before .before .before .before .before .before .before .args .heading) in
+    let end = c .before .before .before .before .before .find .result in
+    let f = found-in-rest 32 row (l .at) end (c .before .before .before .before .before .find .ensures .0) in
+    let n = sym (c .before .before .before .read-number .ensures) ∙ c .before .enum-told .given .1 in
+    let e = taken-unreadable cs (omega (arith, k .0, k .1)) row (l .numbers) (l .at) (l .k) (l .inv cs (k .0)) (omega (arith, k .0, c .before .before .before .before .before .before .before .loop-test .taken)) (c .before .before .before .before .before .before .if1 .left) end f n in
     let u = c .unreadable2 .ensures in
     (u ∙ sym e, λ kept. broken-kept _ (sym u ∙ kept))
 
@@ -82,13 +92,13 @@ loop-less c = search needs
 
 loop-again : tie.Need-loop-again Inv-loop μ-loop
 loop-again c =
-    let b = c .before .before .before in
-    let l = b .before .before .before .before .before .loop in
-    let row = b .before .before .before .before .before .before .before .args .row .now in
-    let end = b .before .before .find .result in
-    let f = found-in-rest 32 row (l .at) end (b .before .before .find .ensures .0) in
-    let n = sym (b .read-number .ensures) ∙ c .before .number .given .1 in
-    taken-value row (l .numbers) (l .at) (l .k) (l .inv) (b .before .before .before .before .loop-test .taken) (b .before .before .before .if1 .left) end f _ n
+    let l = c .before .before .before .before .before .before .before .before .loop in
+    let k = c .before .before .before .before .before .before .before .before .before .column-count .ensures in
+    let row = c .before .before .before .before .before .before .before .before .before .before .before .args .row .now in
+    let end = c .before .before .before .before .before .find .result in
+    let f = found-in-rest 32 row (l .at) end (c .before .before .before .before .before .find .ensures .0) in
+    let n = sym (c .before .before .before .read-number .ensures) ∙ c .before .number .given .1 in
+    λ cs e. taken-value cs (omega (arith, e, k .1)) row (l .numbers) (l .at) (l .k) (l .inv cs e) (omega (arith, e, c .before .before .before .before .before .before .before .loop-test .taken)) (c .before .before .before .before .before .before .if1 .left) end f _ n
 
 text-after-requires : tie.Need-text-after-requires Inv-loop μ-loop
 text-after-requires c κs = search needs
@@ -96,17 +106,24 @@ text-after-requires c κs = search needs
 returns-3 : tie.Need-returns-3 Inv-loop μ-loop
 returns-3 c =
     let l = c .before .before .before .loop in
-    let row = c .before .before .before .before .before .args .row .now in
-    let e = taken-after row (l .numbers) (l .at) (l .k) (l .inv) (omega (arith, l .inv .few)) (omega (arith, c .before .if2 .taken)) in
+    let k = c .before .before .before .before .column-count .ensures in
+    let row = c .before .before .before .before .before .before .args .row .now in
+    let cs = columnsUnder (c .before .before .before .before .before .before .args .heading) in
+    let t = l .inv cs (k .0) in
+    let e = taken-after cs (omega (arith, k .0, k .1)) row (l .numbers) (l .at) (l .k) t (omega (arith, t .few, k .0, c .before .before .loop-test .left)) (omega (arith, c .before .if2 .taken)) in
     let u = c .text-after .ensures in
-    (u ∙ sym e, λ kept. broken-kept _ (sym u ∙ kept))
+    let u′ = rw (k .0) at u in
+    (u′ ∙ sym e, λ kept. broken-kept _ (sym u ∙ kept))
 
 returns-4 : tie.Need-returns-4 Inv-loop μ-loop
 returns-4 c =
     let l = c .before .before .loop in
-    let row = c .before .before .before .before .args .row .now in
-    let e = taken-all row (l .numbers) (l .at) (l .k) (l .inv) (omega (arith, l .inv .few)) (omega (arith, c .if2 .left)) in
-    (sym (e .0), λ kept. e .1)
+    let k = c .before .before .before .column-count .ensures in
+    let row = c .before .before .before .before .before .args .row .now in
+    let cs = columnsUnder (c .before .before .before .before .before .args .heading) in
+    let t = l .inv cs (k .0) in
+    let all : l .k ≡ length cs = omega (arith, t .few, k .0, c .before .loop-test .left) in
+    (sym (taken-all cs (omega (arith, k .0, k .1)) row (l .numbers) (l .at) (l .k) t all (omega (arith, c .if2 .left))), λ kept. taken-settings cs (omega (arith, k .0, k .1)) row (l .numbers) (l .at) (l .k) t all (omega (arith, c .if2 .left)))
 
 pub read-values-spec : {M : Type 1} → statement M
 read-values-spec =
@@ -114,6 +131,7 @@ read-values-spec =
     (tie.spec
     Inv-loop
     μ-loop
+    column-count-requires
     loop-holds
     unreadable-requires
     returns

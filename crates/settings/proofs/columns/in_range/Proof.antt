@@ -14,10 +14,10 @@ use Rattle.settings.proofs.columns.in_range.Statement.{statement}
 use Rattle.settings.proofs.columns.in_range.Tie as tie
 
 abbrev Inv-loop : tie.InvT-loop
-Inv-loop numbers k₀ k = (k ≤ 12) × (verdict (ranged 1 table numbers) ≡ verdict (ranged (suc k) (drop k table) (drop k numbers)))
+Inv-loop numbers k₀ k = (k ≤ 13) × (verdict (ranged 1 table numbers) ≡ verdict (ranged (suc k) (drop k table) (drop k numbers)))
 
 abbrev μ-loop : tie.MeasureT-loop
-μ-loop numbers k₀ k = 12 - k
+μ-loop numbers k₀ k = 13 - k
 
 loop-holds : tie.Need-loop-holds Inv-loop μ-loop
 loop-holds c = (omega arith, refl)
@@ -58,7 +58,7 @@ loop-again c =
 returns-2 : tie.Need-returns-2 Inv-loop μ-loop
 returns-2 c =
     let l = c .before .loop in
-    let z : l .k ≡ 12 = omega arith in
+    let z : l .k ≡ 13 = omega arith in
     let e = rw z at (l .inv .1) in
     sym (e ∙ ranged-all (c .before .before .args .t1))
 

@@ -135,10 +135,18 @@ returns-7 c =
     let s = n1 .before .args .s in
     rw (c .conflict7 .ensures) (simp (le-ltb (s .bo) (s .so) (omega (arith, e1 .if1 .left)), sym (n2 .none-with-some .ensures) ∙ e2 .if2 .left, sym (n3 .some-with-none .ensures) ∙ e3 .if3 .left, sym (n4 .both-none .ensures) ∙ e4 .if4 .left, le-ltb (s .h) (s .sink) (omega (arith, e5 .if5 .left)), sym (n6 .some-below-two .ensures) ∙ e6 .if6 .left, sym (n7 .too-long .ensures) ∙ c .before .if7 .taken))
 
+some-with-none-requires-2 : tie.Need-some-with-none-requires-2
+some-with-none-requires-2 c κs = search needs
+
+conflict-requires-8 : tie.Need-conflict-requires-8
+conflict-requires-8 c κs = search needs
+
 returns-8 : tie.Need-returns-8
 unfolding firstBroken atOdds
 returns-8 c =
-    let n7 = c .before in
+    let n8 = c .before .before in
+    let e7 = n8 .before in
+    let n7 = e7 .before in
     let e6 = n7 .before in
     let n6 = e6 .before in
     let e5 = n6 .before in
@@ -152,7 +160,28 @@ returns-8 c =
     let e1 = n2 .before in
     let n1 = e1 .before in
     let s = n1 .before .args .s in
-    simp (le-ltb (s .bo) (s .so) (omega (arith, e1 .if1 .left)), sym (n2 .none-with-some .ensures) ∙ e2 .if2 .left, sym (n3 .some-with-none .ensures) ∙ e3 .if3 .left, sym (n4 .both-none .ensures) ∙ e4 .if4 .left, le-ltb (s .h) (s .sink) (omega (arith, e5 .if5 .left)), sym (n6 .some-below-two .ensures) ∙ e6 .if6 .left, sym (n7 .too-long .ensures) ∙ c .if7 .left)
+    rw (c .conflict8 .ensures) (simp (le-ltb (s .bo) (s .so) (omega (arith, e1 .if1 .left)), sym (n2 .none-with-some .ensures) ∙ e2 .if2 .left, sym (n3 .some-with-none .ensures) ∙ e3 .if3 .left, sym (n4 .both-none .ensures) ∙ e4 .if4 .left, le-ltb (s .h) (s .sink) (omega (arith, e5 .if5 .left)), sym (n6 .some-below-two .ensures) ∙ e6 .if6 .left, sym (n7 .too-long .ensures) ∙ e7 .if7 .left, sym (n8 .some-with-none2 .ensures) ∙ c .before .if8 .taken))
+
+returns-9 : tie.Need-returns-9
+unfolding firstBroken atOdds
+returns-9 c =
+    let n8 = c .before in
+    let e7 = n8 .before in
+    let n7 = e7 .before in
+    let e6 = n7 .before in
+    let n6 = e6 .before in
+    let e5 = n6 .before in
+    let n5 = e5 .before in
+    let e4 = n5 .before in
+    let n4 = e4 .before in
+    let e3 = n4 .before in
+    let n3 = e3 .before in
+    let e2 = n3 .before in
+    let n2 = e2 .before in
+    let e1 = n2 .before in
+    let n1 = e1 .before in
+    let s = n1 .before .args .s in
+    simp (le-ltb (s .bo) (s .so) (omega (arith, e1 .if1 .left)), sym (n2 .none-with-some .ensures) ∙ e2 .if2 .left, sym (n3 .some-with-none .ensures) ∙ e3 .if3 .left, sym (n4 .both-none .ensures) ∙ e4 .if4 .left, le-ltb (s .h) (s .sink) (omega (arith, e5 .if5 .left)), sym (n6 .some-below-two .ensures) ∙ e6 .if6 .left, sym (n7 .too-long .ensures) ∙ e7 .if7 .left, sym (n8 .some-with-none2 .ensures) ∙ c .if8 .left)
 
 pub agree-spec : {M : Type 1} → statement M
 agree-spec =
@@ -177,4 +206,7 @@ agree-spec =
     too-long-requires
     conflict-requires-7
     returns-7
-    returns-8)
+    some-with-none-requires-2
+    conflict-requires-8
+    returns-8
+    returns-9)

@@ -1,6 +1,6 @@
-//! Rules of request E3, each with one thing wrong.
+//! Rules of requests E3 and E5, each with one thing wrong.
 
-use reference::{Kind, Network, Refusal as Reason, Superframe, TreeLink, TreePlan};
+use reference::{Beside, Kind, Network, Refusal as Reason, Superframe, TreeLink, TreePlan};
 
 /// A planner's conditions 6, 5 and 7.
 pub type Check = fn(&Network) -> Result<(), Reason>;
@@ -8,6 +8,8 @@ pub type Check = fn(&Network) -> Result<(), Reason>;
 pub type Change = fn(&[TreeLink], &mut TreePlan);
 /// The list that is read in place of the one that was lent.
 pub type Reading = fn(&[u8]) -> Vec<u8>;
+/// What is taken in place of what is given beside a list.
+pub type Taking = fn(&Beside) -> Beside;
 
 /// Wrong conditions, with what is wrong in each.
 pub const WRONG_CHECKS: [(&str, Check); 9] = [
@@ -125,6 +127,21 @@ pub const WRONG_READINGS: [(&str, Reading); 12] = [
     }),
     ("BURST 256 or RATE 4096 for one less", |list| {
         with_values(list, |[.., burst, rate]| (*burst, *rate) = (*burst - *burst / 256, *rate - *rate / 4096))
+    }),
+];
+
+/// Wrong ways to take LOSS, with what is wrong in each.
+pub const WRONG_LOSSES: [(&str, Taking); 5] = [
+    ("LOSS is passed over", |beside| Beside { loss: 0, ..*beside }),
+    ("one failed try less", |beside| Beside {
+        loss: beside.loss - u32::from((1..=7).contains(&beside.loss)),
+        ..*beside
+    }),
+    ("LOSS 8 is 7", |beside| Beside { loss: beside.loss - u32::from(beside.loss == 8), ..*beside }),
+    ("the lowest 8 bits of LOSS", |beside| Beside { loss: beside.loss % 256, ..*beside }),
+    ("LOSS is 0 where ACK is 0", |beside| Beside {
+        loss: if beside.ack == 0 && beside.loss <= 7 { 0 } else { beside.loss },
+        ..*beside
     }),
 ];
 

@@ -1,0 +1,51 @@
+-- A row of twelve values and the same row with LOSS 0 have the same outcome. Assumes nothing.
+use mathlib.Core.Path.{_≡_, refl, ap, sym, _∙_}
+use mathlib.Core.List.{List}
+use Prim.Native.Nat.{ℕ}
+use lib.ListN.{length}
+use Rattle.decimal.specs.Ascii.{ascii}
+use Rattle.lines.specs.Text.{same, fields, joined}
+use Rattle.refusals.specs.declared.Refusal.{Refusal}
+use Rattle.refusals.specs.Conditions.{firstBroken}
+use Rattle.refusals.specs.Outcome.{Planned, Refused}
+use Rattle.settings.specs.Columns.{twelve, table}
+use Rattle.row.specs.declared.Heading.{Heading}
+use Rattle.row.specs.declared.Heading.the-variants.{Twelve, Thirteen}
+use Rattle.row.specs.Names.{nameLine, headingOf, isOther, columnsUnder}
+use Rattle.row.specs.Rows.{named}
+use Rattle.row.specs.Laws.{withZero}
+use Rattle.row.proofs.WithoutLoss.{written-without-loss, settings-without-loss}
+use Rattle.balanced.specs.Checks as balanced
+use Rattle.balanced.specs.Lines.{lines}
+use Rattle.answers.specs.Outcomes.{spelledSettings, rowConditions, rowOutcome, namedOutcome}
+use Rattle.answers.specs.Laws.{SameWithoutLoss}
+
+-- their conditions come to the same, whatever is made of them
+pub settings-same : (row : List ℕ) → length (fields row) ≡ 12 → spelledSettings (withZero row) ≡ spelledSettings row
+unfolding spelledSettings
+settings-same row e = settings-without-loss row e
+
+pub conditions-same : {A : Type 0} (f : Refusal → A) (a : A) (row : List ℕ) → length (fields row) ≡ 12
+    → firstBroken f a (rowConditions Thirteen (withZero row)) ≡ firstBroken f a (rowConditions Twelve row)
+unfolding rowConditions named isOther columnsUnder firstBroken
+conditions-same f a row e = rw (settings-same row e) (written-without-loss f a row (balanced.conditions (spelledSettings row)) e)
+
+rows-without-loss : (row : List ℕ) → length (fields row) ≡ 12 → rowOutcome Thirteen (withZero row) ≡ rowOutcome Twelve row
+unfolding rowOutcome
+rows-without-loss row e = rw (settings-same row e) (conditions-same Refused (Planned (lines (spelledSettings row))) row e)
+
+-- each line of names is the one that it is
+pub names-of-twelve : headingOf (nameLine twelve) ≡ Twelve
+unfolding headingOf nameLine joined twelve table ascii same
+names-of-twelve = refl
+
+pub names-of-thirteen : headingOf (nameLine table) ≡ Thirteen
+unfolding headingOf nameLine joined twelve table ascii same
+names-of-thirteen = refl
+
+pub same-without-loss : SameWithoutLoss
+unfolding namedOutcome
+same-without-loss = record {
+  rows = rows-without-loss;
+  named = λ row e. ap (λ (h : Heading). rowOutcome h (withZero row)) names-of-thirteen ∙ rows-without-loss row e ∙ sym (ap (λ (h : Heading). rowOutcome h row) names-of-twelve);
+}

@@ -1,0 +1,17 @@
+-- `printout::loss_of` meets its contract. Assumes nothing.
+use native.Mathlib.Omega.{arith}
+use borrow.Author.Tests.{lt-ltb, le-ltb}
+use Rattle.printout.specs.Output.{lossIn}
+use Rattle.printout.proofs.loss_of.Statement.{statement}
+use Rattle.printout.proofs.loss_of.Tie as tie
+
+returns : tie.Need-returns
+unfolding lossIn
+returns c = rw (lt-ltb 6 (c .before .before .args .arguments .count) (c .if1 .taken))
+
+returns-2 : tie.Need-returns-2
+unfolding lossIn
+returns-2 c = rw (le-ltb 6 (c .before .before .args .arguments .count) (c .if1 .left))
+
+pub loss-of-spec : {M : Type 1} → statement M
+loss-of-spec = tie.close (tie.spec returns returns-2)
