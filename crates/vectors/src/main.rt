@@ -3,6 +3,7 @@
 use libc::STDOUT_FILENO;
 use measure::Rate;
 use superframe::exchange::exchange_time;
+use superframe::loss::lossy_exchange_time;
 use superframe::orders::beacon_interval;
 use superframe::orders::beacon_length;
 use superframe::orders::contention_slots;
@@ -25,6 +26,7 @@ fn main() {
     contention(71);
     contention(u64::MAX);
     exchanges();
+    losses();
     // Rows of document 01's worked plans: P1, P3, P5, P6; then slots that hold nothing, and rates that no slots hold.
     reservation(8, 4, 26, 1);
     reservation(0, 0, 26, 1);
@@ -97,6 +99,30 @@ fn exchange_line(m: u64) {
     number(m);
     number(exchange_time(m, false).0);
     number(exchange_time(m, true).0);
+    end();
+}
+
+// The same octets with failed tries.
+fn losses() {
+    for m in 5..129 {
+        loss_line(m);
+    }
+}
+
+// The exchange with each LOSS of document 02, and one above, acknowledged; without acknowledgement, which no row asks for, with LOSS 1.
+fn loss_line(m: u64) {
+    name(b"loss");
+    number(m);
+    number(lossy_exchange_time(m, true, 0).0);
+    number(lossy_exchange_time(m, true, 1).0);
+    number(lossy_exchange_time(m, true, 2).0);
+    number(lossy_exchange_time(m, true, 3).0);
+    number(lossy_exchange_time(m, true, 4).0);
+    number(lossy_exchange_time(m, true, 5).0);
+    number(lossy_exchange_time(m, true, 6).0);
+    number(lossy_exchange_time(m, true, 7).0);
+    number(lossy_exchange_time(m, true, 8).0);
+    number(lossy_exchange_time(m, false, 1).0);
     end();
 }
 
