@@ -3,6 +3,7 @@ use mathlib.Core.Path.{_≡_, refl, ap, sym, _∙_}
 use mathlib.Core.List.{List, _++_}
 use Prim.Native.Nat.{ℕ}
 use native.Mathlib.Omega.{arith}
+use borrow.Author.Tests.{le-ltb}
 use lib.ListN.{getD}
 use Rattle.decimal.specs.Ascii.{ascii}
 use Rattle.decimal.specs.Decimal.{digitsBy, decimal}
@@ -29,8 +30,8 @@ use Rattle.report.proofs.OneTreeText.{one-text-for-trees}
 use Rattle.planner.specs.Plans.{printed}
 use Rattle.batch.specs.Output.{tooLong}
 use Rattle.settings.specs.declared.Settings.{Settings}
-use Rattle.printout.specs.Output.{argued, besideOf, sinkOf, argumentConditions, callOutcome, treeOutput}
-use Rattle.printout.specs.Laws.{LongInputs, TenBeforeTwo, ReadArguments, PrintedLinesKeep}
+use Rattle.printout.specs.Output.{lossIn, argued, besideOf, sinkOf, argumentConditions, callOutcome, treeOutput}
+use Rattle.printout.specs.Laws.{NotGivenIsZero, LongInputs, TenBeforeTwo, ReadArguments, PrintedLinesKeep}
 use Rattle.printout.proofs.Outputs.{too-long, ten-broken, two-next, call-refused, call-planned, output-refused}
 
 pub long-inputs : LongInputs
@@ -78,3 +79,9 @@ printed-lines-keep a input p e = by (callOutcome a input) refl e where
       let same : l ≡ p = one-text-for-trees l p w in
       every-text-keeps input b sink p
       (unbroken-planned own (surveyed input sink ++ checked) (unbroken-append (surveyed input sink) checked s c) ∙ ap Planned (u .1 ∙ same))
+
+-- ---- LOSS that is not given
+
+pub not-given-is-zero : NotGivenIsZero
+unfolding treeOutput callOutcome argumentConditions argued lossIn besideOf sinkOf
+not-given-is-zero bo so head payload ack sink loss count input h = rw (le-ltb 6 count h, le-ltb 7 count (omega arith))

@@ -4,6 +4,8 @@ use mathlib.Core.List.{List}
 use Prim.Native.Nat.{ℕ, _≤_, _<_}
 use lib.ListN.{length}
 use Rattle.decimal.specs.Ascii.{ascii}
+use Rattle.decimal.specs.declared.Number.{Number}
+use Rattle.decimal.specs.declared.Number.the-variants.{Value}
 use Rattle.refusals.specs.declared.Refusal.{Refusal}
 use Rattle.refusals.specs.declared.Verdict.the-variants.{Kept, Broken}
 use Rattle.refusals.specs.Conditions.{firstBroken}
@@ -29,6 +31,12 @@ TenBeforeTwo = (a : Arguments) (input : List ℕ) (r : Refusal) → length input
 abbrev pub ReadArguments : Type 0
 ReadArguments = (a : Arguments) (input : List ℕ) → length input ≤ 65536 → firstBroken Broken Kept (argued a) ≡ Kept
     → treeOutput a input ≡ printed treeText (outcomeIn input (besideOf a) (sinkOf a))
+
+-- LOSS that is not given is LOSS 0
+abbrev pub NotGivenIsZero : Type 0
+NotGivenIsZero = (bo so head payload ack sink loss : Number) (count : ℕ) (input : List ℕ) → count ≤ 6
+    → treeOutput (record { bo = bo; so = so; head = head; payload = payload; ack = ack; sink = sink; loss = loss; count = count }) input
+    ≡ treeOutput (record { bo = bo; so = so; head = head; payload = payload; ack = ack; sink = sink; loss = Value 0; count = 7 }) input
 
 -- demand 3 of what is printed: of ANY lines whose text it is
 abbrev pub PrintedLinesKeep : Type 0
