@@ -80,7 +80,9 @@ lineOf T p v = cond (T .isRouter v)
 
 -- ---- the network that a tree, the printed lines and the windows' offsets make
 
--- m is computed here from SLOTS, S and X; no other figure of the plan goes into the run
+-- m is computed here from SLOTS, S and X; no other figure of the plan goes into the run. X is the exchange with LOSS (document 02, E5): it holds
+-- up to LOSS failed tries of its frame and one that succeeds (`HoldsTries` of superframe's specs/Loss), and "a frame counts as received when its
+-- exchange ends"
 unfoldable pub networkOf : Settings → List Line → Tree → (ℕ → ℕ) → Network
 networkOf s p T offset = record {
   nodes = T .nodes;

@@ -45,7 +45,8 @@ longest (l ∷ ls) = max (l .route .0) (longest ls)
 
 -- ---- the network that the tree, the printed lines and the windows' offsets make
 
--- m is computed here from SLOTS, S and X; no other figure of the plan goes into the run
+-- m is computed here from SLOTS, S and X; no other figure of the plan goes into the run. X is the exchange with the LOSS beside, as in a row's
+-- run: "a frame counts as received when its exchange ends" (document 02, E5)
 unfoldable pub networkOf : Settings → List NodeLine → Tree → ℕ → (ℕ → ℕ) → Network
 networkOf b p t sink offset = record {
   nodes = t .nodes;
