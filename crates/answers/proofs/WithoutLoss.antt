@@ -1,20 +1,18 @@
 -- A row of twelve values and the same row with LOSS 0 have the same outcome. Assumes nothing.
-use mathlib.Core.Path.{_≡_, refl, ap, sym, _∙_}
+use mathlib.Core.Path.{_≡_, ap, sym, _∙_}
 use mathlib.Core.List.{List}
 use Prim.Native.Nat.{ℕ}
 use lib.ListN.{length}
-use Rattle.decimal.specs.Ascii.{ascii}
-use Rattle.lines.specs.Text.{same, fields, joined}
+use Rattle.lines.specs.Text.{fields}
 use Rattle.refusals.specs.declared.Refusal.{Refusal}
 use Rattle.refusals.specs.Conditions.{firstBroken}
 use Rattle.refusals.specs.Outcome.{Planned, Refused}
-use Rattle.settings.specs.Columns.{twelve, table}
 use Rattle.row.specs.declared.Heading.{Heading}
 use Rattle.row.specs.declared.Heading.the-variants.{Twelve, Thirteen}
-use Rattle.row.specs.Names.{nameLine, headingOf, isOther, columnsUnder}
+use Rattle.row.specs.Names.{isOther, columnsUnder}
 use Rattle.row.specs.Rows.{named}
 use Rattle.row.specs.Laws.{withZero}
-use Rattle.row.proofs.WithoutLoss.{written-without-loss, settings-without-loss}
+use Rattle.row.proofs.WithoutLoss.{written-without-loss, settings-without-loss, names-of-twelve, names-of-thirteen}
 use Rattle.balanced.specs.Checks as balanced
 use Rattle.balanced.specs.Lines.{lines}
 use Rattle.answers.specs.Outcomes.{spelledSettings, rowConditions, rowOutcome, namedOutcome}
@@ -33,15 +31,6 @@ conditions-same f a row e = rw (settings-same row e) (written-without-loss f a r
 rows-without-loss : (row : List ℕ) → length (fields row) ≡ 12 → rowOutcome Thirteen (withZero row) ≡ rowOutcome Twelve row
 unfolding rowOutcome
 rows-without-loss row e = rw (settings-same row e) (conditions-same Refused (Planned (lines (spelledSettings row))) row e)
-
--- each line of names is the one that it is
-pub names-of-twelve : headingOf (nameLine twelve) ≡ Twelve
-unfolding headingOf nameLine joined twelve table ascii same
-names-of-twelve = refl
-
-pub names-of-thirteen : headingOf (nameLine table) ≡ Thirteen
-unfolding headingOf nameLine joined twelve table ascii same
-names-of-thirteen = refl
 
 pub same-without-loss : SameWithoutLoss
 unfolding namedOutcome

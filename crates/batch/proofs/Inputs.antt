@@ -8,7 +8,7 @@ use borrow.Author.Tests.{lt-ltb, le-ltb}
 use Rattle.lines.specs.declared.Cursor.{Cursor}
 use Rattle.lines.specs.declared.Line.the-variants.{Found, Nothing}
 use Rattle.decimal.specs.Ascii.{ascii}
-use Rattle.lines.specs.Text.{same, joined, lines, ended, lineAt, partOf}
+use Rattle.lines.specs.Text.{same, joined, ended, lineAt, partOf}
 use Rattle.lines.proofs.LawsHold.{found-advances, nothing-is-left}
 use Rattle.refusals.specs.declared.Refusal.{Refusal}
 use Rattle.refusals.specs.declared.Refusal.the-variants.{Names, InputTooLong}

@@ -1,14 +1,14 @@
 -- Rows of twelve values and the same rows with LOSS 0 print the same. Assumes nothing.
-use mathlib.Core.Path.{_≡_, refl, ap, ap₂, sym, _∙_}
+use mathlib.Core.Path.{_≡_, refl, ap₂, sym, _∙_}
 use mathlib.Core.Bool.{true, false, and-eq-true-iff}
 use mathlib.Core.List.{List, [], _∷_, _++_, map}
 use Prim.Native.Nat.{ℕ, _+_, _≤_}
 use native.Mathlib.Omega.{arith}
 use lib.Dec.{eqb}
-use lib.ListN.{length, getD, drop, length-append}
+use lib.ListN.{length, length-append}
 use borrow.Author.Tests.{eqb-true, le-ltb}
 use Rattle.decimal.specs.Ascii.{ascii}
-use Rattle.lines.specs.Text.{same, fields, joined, lines, ended}
+use Rattle.lines.specs.Text.{fields, joined, lines, ended}
 use Rattle.lines.specs.Laws.{lacks, allLack}
 use Rattle.lines.proofs.Parting.{all-lack-head, lacks-both, lines-of-text}
 use Rattle.refusals.specs.Conditions.{firstBroken}
@@ -19,10 +19,10 @@ use Rattle.row.specs.Names.{nameLine, headingOf, isOther}
 use Rattle.row.specs.Rows.{named}
 use Rattle.row.specs.Laws.{withZero}
 use Rattle.balanced.specs.Outcome.{RowOutcome}
-use Rattle.answers.specs.Outcomes.{rowOutcome}
+use Rattle.row.proofs.WithoutLoss.{names-of-twelve, names-of-thirteen}
 use Rattle.answers.proofs.WithoutLoss as answers
 use Rattle.batch.specs.declared.Style.{Style}
-use Rattle.batch.specs.Output.{printed, refusalPrinted, rowsPrinted, tooLong, headingIn, inputConditions, output}
+use Rattle.batch.specs.Output.{printed, rowsPrinted, tooLong, headingIn, inputConditions, output}
 use Rattle.batch.specs.Laws.{allTwelve, SameWithoutLoss}
 
 rows-same : (s : Style) (rows : List (List ℕ)) → allTwelve rows ≡ true → rowsPrinted s Thirteen (map withZero rows) ≡ rowsPrinted s Twelve rows
@@ -67,20 +67,20 @@ names-longer : (rows : List (List ℕ)) → length (ended (nameLine twelve ∷ r
 unfolding ended nameLine joined twelve table ascii
 names-longer rows = omega (arith, zeros-longer rows)
 
--- each line of names is the one that it is, and has no LF
+-- a line of names has no LF
 with-names : (names : List ℕ) (rows : List (List ℕ)) → lacks 10 names ≡ true → allLack 10 rows ≡ true → lines (ended (names ∷ rows)) ≡ names ∷ rows
 unfolding allLack
 with-names names rows n e = lines-of-text (names ∷ rows) (and-eq-true-iff (lacks 10 names) (allLack 10 rows) .1 (n, e))
 
 twelve-printed : (s : Style) (rows : List (List ℕ)) → allLack 10 rows ≡ true → length (ended (nameLine twelve ∷ rows)) ≤ 65536
     → output s (ended (nameLine twelve ∷ rows)) ≡ rowsPrinted s Twelve rows
-unfolding isOther headingOf nameLine joined twelve table ascii same lacks input
-twelve-printed s rows e few = rows-printed s Twelve (nameLine twelve) rows few refl refl (with-names (nameLine twelve) rows refl e)
+unfolding isOther nameLine joined twelve ascii lacks input
+twelve-printed s rows e few = rows-printed s Twelve (nameLine twelve) rows few names-of-twelve refl (with-names (nameLine twelve) rows refl e)
 
 thirteen-printed : (s : Style) (rows : List (List ℕ)) → allLack 10 rows ≡ true → length (ended (nameLine table ∷ rows)) ≤ 65536
     → output s (ended (nameLine table ∷ rows)) ≡ rowsPrinted s Thirteen rows
-unfolding isOther headingOf nameLine joined twelve table ascii same lacks input
-thirteen-printed s rows e few = rows-printed s Thirteen (nameLine table) rows few refl refl (with-names (nameLine table) rows refl e)
+unfolding isOther nameLine joined twelve table ascii lacks input
+thirteen-printed s rows e few = rows-printed s Thirteen (nameLine table) rows few names-of-thirteen refl (with-names (nameLine table) rows refl e)
 
 pub same-without-loss : SameWithoutLoss
 same-without-loss = record {

@@ -19,7 +19,7 @@ use Rattle.balanced.specs.declared.Kind.the-variants.{EndNode, Sink}
 use Rattle.balanced.specs.declared.Line.{Line}
 use Rattle.balanced.specs.Lines.{line}
 use Rattle.balanced.specs.Tree.{isChild, ancestor, sinkBelow, towards, lineOf, networkOf, Windows}
-use Rattle.balanced.specs.Witness.{lossySettings, smallSettings, smallRow, smallTree, soonFrom, fullReadings, lossyRow}
+use Rattle.balanced.specs.Witness.{lossySettings, smallSettings, smallRow, smallTree, soonFrom, fullReadings}
 use Rattle.balanced.proofs.Witnesses.{filled}
 use Rattle.answers.proofs.Computing.{answered}
 use Rattle.report.specs.Text.{header, numbers, lineText, text}

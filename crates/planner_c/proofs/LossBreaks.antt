@@ -16,7 +16,7 @@ use Rattle.network.specs.Examples.{reading, first}
 use Rattle.network.proofs.Oracles.{every-choice-is-a-run}
 use Rattle.balanced.specs.declared.Kind.the-variants.{EndNode, Sink}
 use Rattle.balanced.specs.declared.Line.{Line}
-use Rattle.balanced.specs.Lines.{line, sameKind, figuresAt}
+use Rattle.balanced.specs.Lines.{line}
 use Rattle.balanced.specs.Tree.{isChild, ancestor, sinkBelow, towards, lineOf, networkOf, Windows}
 use Rattle.balanced.specs.Promise.{sinkLine}
 use Rattle.balanced.specs.Witness.{lossySettings, smallSettings, smallTree, soonFrom, lossyRow}
@@ -60,15 +60,15 @@ windows (suc (suc v)) h n = absurd (omega arith)
 
 -- Of the frames that are made in symbols 0, 479 and 959, the first is sent in 960 and the second in 1920, so that the third is still there at the
 -- end of 2400: 1441 symbols after it was made.
-the-frame : Frame
-the-frame = record { sensor = 1; made = 959; came = 959 }
+unfoldable pub third-frame : Frame
+third-frame = record { sensor = 1; made = 959; came = 959 }
 
-third : queue (run network (soonFrom 0) first 2401) 1 ≡ the-frame ∷ []
-unfolding the-frame network answered lossySettings smallSettings lossyRow smallTree losslessLines isChild ancestor sinkBelow towards lineOf networkOf bit below soonFrom reading first run symbol serveAll begun serve takeOldest behind idle isStart makeReadings fresh endExchanges Rattle.network.specs.Run.arrivals arrived ends feeds deliver made queue keep
+third : queue (run network (soonFrom 0) first 2401) 1 ≡ third-frame ∷ []
+unfolding third-frame network answered lossySettings smallSettings lossyRow smallTree losslessLines isChild ancestor sinkBelow towards lineOf networkOf bit below soonFrom reading first run symbol serveAll begun serve takeOldest behind idle isStart makeReadings fresh endExchanges Rattle.network.specs.Run.arrivals arrived ends feeds deliver made queue keep
 third = refl
 
-too-late : All (λ f. 2400 ≤ f .made + 1440) (the-frame ∷ []) → ⊥
-unfolding the-frame
+pub too-late : All (λ f. 2400 ≤ f .made + 1440) (third-frame ∷ []) → ⊥
+unfolding third-frame
 too-late (each h t) = omega (arith, h)
 
 pub lossless-breaks : LosslessBreaks

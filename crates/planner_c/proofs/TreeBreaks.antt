@@ -27,6 +27,7 @@ use Rattle.tree.proofs.FullQueue.{filled, pair-readings}
 use Rattle.tree.proofs.TwoHops.{two-links}
 use Rattle.nodes.specs.Survey.{treeIn}
 use Rattle.nodes.proofs.Computing.{lists}
+use Rattle.planner_c.proofs.LossBreaks.{third-frame, too-late}
 use Rattle.planner_c.specs.TreeBroken.{pairList, lowBuffer, hopList, lowRoute, lowRoutes, lossless, LoweredBreak}
 
 -- to unfold `texts` is to unfold all that a plan's text is computed with
@@ -155,12 +156,9 @@ loss-windows zero L = lit≤ tt
 loss-windows (suc zero) L = lit≤ tt
 loss-windows (suc (suc i)) L = absurd (omega (arith, L .node))
 
-third : queue (run lossNetwork (soonFrom 0) first 2401) 1 ≡ record { sensor = 1; made = 959; came = 959 } ∷ []
-unfolding trees runs printed-line lossy pair losslessPair soonFrom lossNetwork
+third : queue (run lossNetwork (soonFrom 0) first 2401) 1 ≡ third-frame ∷ []
+unfolding third-frame trees runs printed-line lossy pair losslessPair soonFrom lossNetwork
 third = refl
-
-too-late : All (λ (f : Frame). 2400 ≤ f .made + 1440) (record { sensor = 1; made = 959; came = 959 } ∷ []) → ⊥
-too-late (each h t) = omega (arith, h)
 
 loss-breaks : ¬ Keeps lossy pair 1 losslessPair
 unfolding trees runs printed-line lossy pair losslessPair lossNetwork

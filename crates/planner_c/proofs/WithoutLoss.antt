@@ -1,6 +1,6 @@
 -- A row of twelve values and the same row with LOSS 0: every call answers and leaves the same. Assumes nothing.
-use mathlib.Core.Path.{_≡_, refl, ap, sym, _∙_}
-use mathlib.Core.List.{List, _++_}
+use mathlib.Core.Path.{_≡_, ap, sym, _∙_}
+use mathlib.Core.List.{List}
 use Prim.Native.Nat.{ℕ}
 use lib.ListN.{length}
 use Rattle.lines.specs.Text.{fields}
@@ -8,14 +8,14 @@ use Rattle.refusals.specs.Conditions.{firstBroken}
 use Rattle.refusals.specs.Outcome.{Outcome, Planned, Refused}
 use Rattle.refusals.proofs.Answering.{first-append}
 use Rattle.settings.specs.Columns.{twelve, table}
-use Rattle.row.specs.declared.Heading.{Heading}
 use Rattle.row.specs.declared.Heading.the-variants.{Twelve, Thirteen}
-use Rattle.row.specs.Names.{nameLine, headingOf}
+use Rattle.row.specs.Names.{nameLine}
 use Rattle.row.specs.Laws.{withZero}
 use Rattle.balanced.specs.declared.Line.{Line}
 use Rattle.balanced.specs.Lines.{lines}
 use Rattle.report.specs.Text.{text}
-use Rattle.answers.specs.Outcomes.{spelledSettings, rowConditions, namedOutcome}
+use Rattle.answers.specs.Outcomes.{spelledSettings, rowConditions}
+use Rattle.row.proofs.WithoutLoss.{names-of-twelve, names-of-thirteen}
 use Rattle.answers.proofs.WithoutLoss as answers
 use Rattle.planner_c.specs.Calls.{told, filled, room, roomed, left, leaves}
 use Rattle.planner_c.specs.Entries.{planRow, checkRow}
@@ -38,7 +38,7 @@ roomed-same row before e =
 plans-same : (row before : List ℕ) → length (fields row) ≡ 12 → planRow (nameLine table) (withZero row) before ≡ planRow (nameLine twelve) row before
 unfolding planRow leaves
 plans-same row before e =
-    rw (answers.names-of-thirteen, answers.names-of-twelve) (ap (λ (o : Outcome (List Line)). left (told text o) (filled text before o)) (roomed-same row before e))
+    rw (names-of-thirteen, names-of-twelve) (ap (λ (o : Outcome (List Line)). left (told text o) (filled text before o)) (roomed-same row before e))
 
 pub same-without-loss : SameWithoutLoss
 unfolding checkRow explainRow rowLine

@@ -5,7 +5,7 @@ use Prim.Native.Nat.{ℕ, suc, _+_, _-_, _≤_, _<_}
 use native.Mathlib.Omega.{arith}
 use native.Mathlib.Decide.{decLe}
 use native.Mathlib.Numerals.{add-one}
-use lib.ListN.{length, getD, take, drop, set, length-set, length-take, replicate, length-replicate, getD-replicate, List·getD-eq-default}
+use lib.ListN.{length, getD, take, drop, set, length-set, length-take, replicate, getD-replicate, List·getD-eq-default}
 use lib.Seq.{take-suc-set, append-snoc, getD-set-other, getD-take}
 use Rattle.bytes.specs.Bytes.{indexOf}
 use Rattle.decimal.specs.Number.{spelled, numberIn}

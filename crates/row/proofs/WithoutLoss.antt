@@ -9,7 +9,7 @@ use lib.ListN.{length, getD, length-append, length-map, List·getD-append, List�
 use lib.Seq.{getD-at}
 use Rattle.decimal.specs.Ascii.{ascii}
 use Rattle.decimal.specs.Number.{digits, zeroLed, shaped, readable, spelled, spelledAfter}
-use Rattle.lines.specs.Text.{fields}
+use Rattle.lines.specs.Text.{same, fields, joined}
 use Rattle.lines.specs.Laws.{lacks}
 use Rattle.lines.proofs.Parting.{one-value-more}
 use Rattle.refusals.specs.declared.Refusal.{Refusal}
@@ -18,8 +18,9 @@ use Rattle.refusals.specs.Conditions.{Condition, firstBroken}
 use Rattle.refusals.proofs.Answering.{first-append}
 use Rattle.settings.specs.Columns.{Column, twelve, table}
 use Rattle.settings.specs.Checks.{checks}
+use Rattle.row.specs.declared.Heading.the-variants.{Twelve, Thirteen}
 use Rattle.row.specs.declared.Row.the-variants.{Read, Refused}
-use Rattle.row.specs.Names.{isOther, columnsUnder}
+use Rattle.row.specs.Names.{nameLine, headingOf, isOther, columnsUnder}
 use Rattle.row.specs.Rows.{named, written, valuesIn, settingsOf, conditions, rowUnder}
 use Rattle.row.specs.Laws.{withZero, SameWithoutLoss}
 use Rattle.row.proofs.Taking.{same-settings}
@@ -75,6 +76,15 @@ settings-without-loss row e = same-settings (valuesIn (withZero row)) (valuesIn 
     by i (no f) =
         let long : length (valuesIn row) ≤ i = omega (arith, few) in
         behind i (omega arith) (decLe i 12) ∙ sym (List·getD-eq-default (valuesIn row) 0 long)
+
+-- each line of names is the one that it is
+pub names-of-twelve : headingOf (nameLine twelve) ≡ Twelve
+unfolding headingOf nameLine joined twelve table ascii same
+names-of-twelve = refl
+
+pub names-of-thirteen : headingOf (nameLine table) ≡ Thirteen
+unfolding headingOf nameLine joined twelve table ascii same
+names-of-thirteen = refl
 
 pub same-without-loss : SameWithoutLoss
 unfolding rowUnder conditions named isOther columnsUnder firstBroken

@@ -10,6 +10,7 @@ use refusals::Refusal;
 use row::Heading;
 use row::Row;
 use row::heading_of;
+use row::is_other;
 use row::read_named_row;
 use row::read_row;
 use settings::Settings;
@@ -128,10 +129,10 @@ fn through(text: &[u8]) {
         return;
     };
     let heading = heading_of(part(text, start, end));
-    match heading {
-        Heading::Twelve => rows(heading, text, next),
-        Heading::Thirteen => rows(heading, text, next),
-        Heading::Other => refused(Refusal::Names),
+    if is_other(heading) {
+        refused(Refusal::Names);
+    } else {
+        rows(heading, text, next);
     }
 }
 

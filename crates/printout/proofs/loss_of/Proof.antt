@@ -1,5 +1,4 @@
 -- `printout::loss_of` meets its contract. Assumes nothing.
-use native.Mathlib.Omega.{arith}
 use borrow.Author.Tests.{lt-ltb, le-ltb}
 use Rattle.printout.specs.Output.{lossIn}
 use Rattle.printout.proofs.loss_of.Statement.{statement}

@@ -1,5 +1,4 @@
 -- `row::is_other` meets its contract. Assumes nothing.
-use mathlib.Core.Path.{refl}
 use Rattle.row.specs.Names.{isOther}
 use borrow.Author.Needs.{needs}
 use Rattle.row.proofs.is_other.Statement.{statement}

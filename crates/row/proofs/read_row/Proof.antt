@@ -1,5 +1,5 @@
 -- `row::read_row` meets its contract. Assumes nothing.
-use mathlib.Core.Path.{_≡_, sym, _∙_}
+use mathlib.Core.Path.{sym, _∙_}
 use borrow.Author.Needs.{needs}
 use Rattle.row.proofs.RowCases.{row-unnamed, row-unwritten, row-unchecked, row-read}
 use borrow.Author.Needs.{needs}

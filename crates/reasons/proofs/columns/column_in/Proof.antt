@@ -4,7 +4,7 @@ use Prim.Native.Nat.{suc, _-_, _≤_}
 use native.Mathlib.Omega.{arith}
 use native.Mathlib.Numerals.{add-one}
 use lib.ListN.{drop}
-use Rattle.settings.specs.Columns.{twelve, table}
+use Rattle.settings.specs.Columns.{table}
 use Rattle.reasons.specs.declared.Match.the-variants.{At}
 use Rattle.reasons.specs.Reading.{placeIn, columnFrom, unnamed, columnIn}
 use Rattle.reasons.proofs.ColumnNames.{column-found, column-later, column-none}
