@@ -6,16 +6,16 @@ ghost use mathlib.Core.Path.{_≡_};
 ghost use Prim.Native.Nat.{_≤_};
 ghost use lib.Seq.{sets};
 ghost use Rattle.report.specs.Text.{text};
-ghost use Rattle.planner.specs.Plans.{answer, written};
+ghost use Rattle.plan_model.specs.Plans.{answer, written};
 ghost use Rattle.answers.specs.Outcomes.{rowOutcome, namedOutcome};
 ghost use Rattle.answers.specs.Inner.{readOutcome};
-use planner::Plan;
-use planner::plan_of;
-use planner::refused_plan;
+use plan_common::refused_plan;
+use plan_model::Plan;
 use row::Heading;
 use row::Row;
 use row::read_named_row;
 use row::read_row;
+use row_print::plan_of;
 
 // The plan of a row without its LF, under a line of names: refusals 1 to 7.
 pub fn plan_row(heading: Heading, row: &[u8], out: &mut [u8]) -> Plan

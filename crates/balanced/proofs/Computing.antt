@@ -1,9 +1,9 @@
 -- To unfold `plans` is to unfold all that a plan is computed with. Assumes nothing.
 use Rattle.measure.specs.Measures.{roundedUp, burst, arrivals, wholeFrames, serviceTime}
-use Rattle.superframe.specs.Orders.{beaconInterval, slot, beaconLength, contention, reservable}
-use Rattle.superframe.specs.Exchange.{airTime, acknowledgement, spacing, exchange}
-use Rattle.superframe.specs.Loss.{failedTry, withLoss, lossyExchange}
-use Rattle.superframe.specs.Reservation.{framesIn, rate, slotsFor, latency}
+use Rattle.superframe_model.specs.Orders.{beaconInterval, slot, beaconLength, contention, reservable}
+use Rattle.superframe_model.specs.Exchange.{airTime, acknowledgement, spacing, exchange}
+use Rattle.superframe_model.specs.Loss.{failedTry, withLoss, lossyExchange}
+use Rattle.superframe_model.specs.Reservation.{framesIn, rate, slotsFor, latency}
 use Rattle.links.specs.Link.{slotsOf, framesOf, latencyOf, reservationOf, afterLink, after, buffer, delay, figuresBy, figuresOf}
 use Rattle.network.specs.Counting.{total, join}
 use Rattle.refusals.specs.Conditions.{firstBroken}

@@ -5,7 +5,7 @@ use mathlib.Core.List.{List, [], _∷_}
 use Prim.Native.Nat.{ℕ, zero, suc}
 use native.Mathlib.Omega.{arith}
 use lib.Dec.{ltb}
-use Rattle.superframe.specs.Reservation.{Smallest}
+use Rattle.superframe_model.specs.Reservation.{Smallest}
 use Rattle.network.specs.Counting.{All, none, each}
 use Rattle.network.proofs.Lists.{All-append, All-join}
 use Rattle.links.specs.declared.Load.{Load}

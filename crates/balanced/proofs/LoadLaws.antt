@@ -4,8 +4,8 @@ use Prim.Native.Nat.{ℕ, suc, _+_, _-_, _*_, _≤_, _<_}
 use native.Mathlib.Omega.{arith}
 use lib.Dec.{eqb}
 use Rattle.measure.specs.Measures.{frames, burst}
-use Rattle.superframe.proofs.OrderLaws.{interval-some, interval-most, slot-some, slot-most}
-use Rattle.superframe.proofs.LossLaws.{lossy-some, lossy-most}
+use Rattle.superframe_model.proofs.OrderLaws.{interval-some, interval-most, slot-some, slot-most}
+use Rattle.superframe_model.proofs.LossLaws.{lossy-some, lossy-most}
 use Rattle.links.specs.declared.Load.{Load}
 use Rattle.links.specs.Link.{plus, times}
 use Rattle.links.specs.Answers.{Timed}

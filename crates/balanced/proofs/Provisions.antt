@@ -6,8 +6,8 @@ use mathlib.Core.Bool.{cond}
 use Prim.Native.Nat.{ℕ, _+_, _*_, _≤_, _<_}
 use native.Mathlib.Omega.{arith}
 use Rattle.measure.specs.declared.Slots.{Slots}
-use Rattle.superframe.specs.Reservation.{framesIn}
-use Rattle.superframe.proofs.ReservationLaws.{frames-fit, latency-sum}
+use Rattle.superframe_model.specs.Reservation.{framesIn}
+use Rattle.superframe_model.proofs.ReservationLaws.{frames-fit, latency-sum}
 use Rattle.network.specs.Model.{Network}
 use Rattle.network.specs.Loads.{Figures, burstAfter, Provisioned}
 use Rattle.links.specs.declared.Timing.{Timing}

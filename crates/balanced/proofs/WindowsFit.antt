@@ -7,7 +7,7 @@ use native.Mathlib.Decide.{decLe}
 use native.Mathlib.Omega.{arith}
 use borrow.Author.Tests.{lt-ltb}
 use Rattle.measure.specs.declared.Rate.{Rate}
-use Rattle.superframe.proofs.OrderLaws.{window-fits}
+use Rattle.superframe_model.proofs.OrderLaws.{window-fits}
 use Rattle.links.specs.Link.{slotsOf}
 use Rattle.settings.specs.declared.Settings.{Settings}
 use Rattle.balanced.specs.Times.{timingOf, routersBelow, reservationsAt, reservableAt}

@@ -4,8 +4,8 @@ use Prim.Native.Nat.{ℕ, _+_}
 use mathlib.Core.Bool.{cond}
 use lib.Dec.{eqb, ltb}
 use Rattle.measure.specs.declared.Slots.{Slots}
-use Rattle.superframe.specs.Orders.{beaconInterval, slot, reservable}
-use Rattle.superframe.specs.Loss.{lossyExchange}
+use Rattle.superframe_model.specs.Orders.{beaconInterval, slot, reservable}
+use Rattle.superframe_model.specs.Loss.{lossyExchange}
 use Rattle.links.specs.declared.Timing.{Timing}
 use Rattle.settings.specs.declared.Settings.{Settings}
 

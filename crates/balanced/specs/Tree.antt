@@ -5,7 +5,7 @@ use mathlib.Core.Bool.{Bool, true, cond, not, _&&_}
 use mathlib.Core.List.{List}
 use Prim.Native.Nat.{ℕ, zero, suc, _+_, _-_, _*_, _≤_, _<_}
 use lib.Dec.{eqb, ltb}
-use Rattle.superframe.specs.Reservation.{framesIn}
+use Rattle.superframe_model.specs.Reservation.{framesIn}
 use Rattle.network.specs.Counting.{total, bit, All}
 use Rattle.network.specs.Model.{Network}
 use Rattle.network.specs.Readings.{Reading, made}
@@ -81,7 +81,7 @@ lineOf T p v = cond (T .isRouter v)
 -- ---- the network that a tree, the printed lines and the windows' offsets make
 
 -- m is computed here from SLOTS, S and X; no other figure of the plan goes into the run. X is the exchange with LOSS (document 02, E5): it holds
--- up to LOSS failed tries of its frame and one that succeeds (`HoldsTries` of superframe's specs/Loss), and "a frame counts as received when its
+-- up to LOSS failed tries of its frame and one that succeeds (`HoldsTries` of superframe_model's specs/Loss), and "a frame counts as received when its
 -- exchange ends"
 unfoldable pub networkOf : Settings → List Line → Tree → (ℕ → ℕ) → Network
 networkOf s p T offset = record {

@@ -3,8 +3,8 @@ use mathlib.Core.Path.{refl}
 use Rattle.lines.specs.Text.{ended, lines}
 use Rattle.answers.proofs.Computing.{answered}
 use Rattle.report.specs.Text.{header, numbers, lineText, text, refusalText}
-use Rattle.reasons.proofs.Computing.{worded}
-use Rattle.planner.specs.Plans as plans
+use Rattle.reason_model.proofs.Computing.{worded}
+use Rattle.plan_model.specs.Plans as plans
 use Rattle.batch.specs.Output.{printed, rowsPrinted, tooLong, headingIn, inputConditions, output}
 use Rattle.batch.specs.Examples as examples
 use Rattle.batch.specs.Examples.{ours, oursLossy, explained, lossyExplained, ExamplesHold, LossyHold, InputsHold, ReasonsHold, LossyReasonsHold}

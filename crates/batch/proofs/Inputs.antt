@@ -22,9 +22,9 @@ use Rattle.row.specs.Names.{nameLine, headingOf, isOther}
 use Rattle.row.specs.Rows.{named}
 use Rattle.refusals.specs.Outcome.{Planned, Refused}
 use Rattle.balanced.specs.Outcome.{RowOutcome}
-use Rattle.planner.specs.Plans.{planned, refused, answer}
+use Rattle.plan_model.specs.Plans.{planned, refused, answer}
 use Rattle.report.specs.Text.{text}
-use Rattle.reasons.specs.Reasons.{spoken}
+use Rattle.reason_model.specs.Reasons.{spoken}
 use Rattle.batch.specs.declared.Style.{Style}
 use Rattle.batch.specs.declared.Style.the-variants.{Reasons}
 use Rattle.batch.specs.Output.{printed, refusalPrinted, tooLong, headingIn, inputConditions}

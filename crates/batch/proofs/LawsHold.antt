@@ -17,12 +17,12 @@ use Rattle.refusals.specs.declared.Verdict.the-variants.{Kept, Broken}
 use Rattle.refusals.proofs.Answering.{verdict, answer-broken, answer-kept}
 use Rattle.refusals.specs.Conditions.{firstBroken}
 use Rattle.report.specs.Text.{text, refusalText}
-use Rattle.planner.specs.Plans.{answer}
-use Rattle.planner.specs.Plans as plans
+use Rattle.plan_model.specs.Plans.{answer}
+use Rattle.plan_model.specs.Plans as plans
 use Rattle.row.specs.declared.Heading.{Heading}
 use Rattle.answers.specs.Outcomes.{rowOutcome}
-use Rattle.reasons.specs.Reasons.{spoken}
-use Rattle.reasons.proofs.Computing.{worded}
+use Rattle.reason_model.specs.Reasons.{spoken}
+use Rattle.reason_model.proofs.Computing.{worded}
 use Rattle.batch.specs.declared.Style.{Style}
 use Rattle.batch.specs.declared.Style.the-variants.{Plans, Reasons}
 use Rattle.batch.proofs.Inputs.{spoken-verdict}

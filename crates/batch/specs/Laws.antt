@@ -15,10 +15,10 @@ use Rattle.row.specs.declared.Heading.the-variants.{Twelve, Thirteen}
 use Rattle.row.specs.Names.{nameLine}
 use Rattle.row.specs.Rows.{named}
 use Rattle.row.specs.Laws.{withZero}
-use Rattle.planner.specs.Plans.{answer}
+use Rattle.plan_model.specs.Plans.{answer}
 use Rattle.answers.specs.Outcomes.{rowOutcome}
 use Rattle.report.specs.Text.{text}
-use Rattle.reasons.specs.Reasons.{spoken}
+use Rattle.reason_model.specs.Reasons.{spoken}
 use Rattle.batch.specs.declared.Style.{Style}
 use Rattle.batch.specs.declared.Style.the-variants.{Plans, Reasons}
 use Rattle.batch.specs.declared.Progress.{Progress}

@@ -15,8 +15,8 @@ use Rattle.refusals.specs.Outcome.{Planned, Refused}
 use Rattle.balanced.specs.Outcome.{RowOutcome}
 use Rattle.answers.specs.Outcomes.{rowOutcome}
 use Rattle.report.specs.Text.{text}
-use Rattle.planner.specs.Plans as plans
-use Rattle.reasons.specs.Reasons.{spoken}
+use Rattle.plan_model.specs.Plans as plans
+use Rattle.reason_model.specs.Reasons.{spoken}
 use Rattle.batch.specs.declared.Style.{Style}
 use Rattle.batch.specs.declared.Style.the-variants.{Plans, Reasons}
 

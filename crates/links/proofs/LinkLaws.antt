@@ -7,8 +7,8 @@ use native.Mathlib.Decide.{decLe}
 use native.Mathlib.Omega.{arith}
 use Rattle.measure.specs.declared.Rate.{Rate}
 use Rattle.measure.specs.Measures.{slots, frames, serviceTime}
-use Rattle.superframe.specs.Reservation.{Smallest, rate}
-use Rattle.superframe.proofs.ReservationLaws.{long-held, slots-smallest, latency-falls, latency-sum, rate-is}
+use Rattle.superframe_model.specs.Reservation.{Smallest, rate}
+use Rattle.superframe_model.proofs.ReservationLaws.{long-held, slots-smallest, latency-falls, latency-sum, rate-is}
 use Rattle.links.specs.declared.Timing.{Timing}
 use Rattle.links.specs.declared.Load.{Load}
 use Rattle.links.specs.Link.{slotsOf, framesOf, latencyOf, reservationOf, afterLink, after, buffer, delay, figuresBy, figuresOf}

@@ -9,7 +9,7 @@ use Rattle.measure.specs.declared.Frames.{Frames}
 use Rattle.measure.specs.declared.FrameSymbols.{FrameSymbols}
 use Rattle.measure.specs.declared.Rate.{Rate}
 use Rattle.measure.specs.Measures.{symbols, slots, frames, largest, upTo64, within, wholeFrames, serviceTime, frameSymbols}
-use Rattle.superframe.specs.Reservation.{framesIn, rate, slotsFor, latency}
+use Rattle.superframe_model.specs.Reservation.{framesIn, rate, slotsFor, latency}
 use Rattle.measure.proofs.Limits.{up-to-fits, within-fits}
 use Rattle.links.specs.declared.Timing.{Timing}
 use Rattle.links.specs.declared.Load.{Load}

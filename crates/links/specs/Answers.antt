@@ -6,7 +6,7 @@ use Rattle.measure.specs.declared.Slots.{Slots}
 use Rattle.measure.specs.declared.Frames.{Frames}
 use Rattle.measure.specs.declared.Rate.{Rate}
 use Rattle.measure.specs.Measures.{symbols, slots, frames, largest, upTo64, within, wholeFrames}
-use Rattle.superframe.specs.Reservation.{framesIn, latency}
+use Rattle.superframe_model.specs.Reservation.{framesIn, latency}
 use Rattle.links.specs.declared.Timing.{Timing}
 use Rattle.links.specs.declared.Load.{Load}
 use Rattle.links.specs.declared.Reservation.{Reservation}

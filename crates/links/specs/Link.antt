@@ -6,7 +6,7 @@ use Rattle.measure.specs.declared.Slots.{Slots}
 use Rattle.measure.specs.declared.Frames.{Frames}
 use Rattle.measure.specs.declared.Rate.{Rate}
 use Rattle.measure.specs.Measures.{symbols, perInterval, frameSymbols, upTo64, arrivals, wholeFrames, serviceTime}
-use Rattle.superframe.specs.Reservation.{framesIn, rate, slotsFor, latency}
+use Rattle.superframe_model.specs.Reservation.{framesIn, rate, slotsFor, latency}
 use Rattle.links.specs.declared.Timing.{Timing}
 use Rattle.links.specs.declared.Load.{Load}
 use Rattle.links.specs.declared.Reservation.{Reservation}

@@ -79,9 +79,9 @@ impl Load {
 pub fn reservation_for(t: Timing, rate: Rate) -> Reservation
     ensures { λ r. ⌜ r ≡ reservationAnswered t rate ⌝ }
 {
-    let slots = superframe::reservation::slots_for(rate, t.slot, t.exchange);
-    let frames = superframe::reservation::frames_in(slots, t.slot, t.exchange);
-    let latency = superframe::reservation::latency_of(t.interval, frames, t.exchange);
+    let slots = superframe_reservation::slots_for(rate, t.slot, t.exchange);
+    let frames = superframe_reservation::frames_in(slots, t.slot, t.exchange);
+    let latency = superframe_reservation::latency_of(t.interval, frames, t.exchange);
     Reservation {
         slots,
         frames,
@@ -100,7 +100,7 @@ pub fn figures_of(interval: Symbols, load: Load, link: Reservation) -> Figures
     let latency = link.latency;
     let left = load.after(link);
     let buffer = measure::whole_frames(left.burst, interval);
-    let service = superframe::reservation::rate_of(frames);
+    let service = superframe_reservation::rate_of(frames);
     let delay = measure::service_time(burst, service).plus(latency);
     Figures {
         rate,

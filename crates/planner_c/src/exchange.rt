@@ -1,8 +1,7 @@
 // The entry for C that hands out the table of exchange times (document 02, E4).
 ghost use mathlib.Core.Path.{_≡_};
 ghost use Prim.Native.Nat.{_≤_};
-ghost use Rattle.planner_c.specs.Exchanges.{exchangeAsked};
-use superframe::exchange::exchange_time;
+ghost use Rattle.calls_model.specs.Exchanges.{exchangeAsked};
 
 // X of a frame of that many octets, 6 to 127, without acknowledgement (ACK 0) or with (1). For any other: 0, which no exchange lasts.
 #[no_mangle]
@@ -10,14 +9,5 @@ pub extern "C" fn planner_exchange_time(octets: u32, ack: u32) -> u32
     ensures { λ r. ⌜ r ≡ exchangeAsked octets ack ⌝ }
     ensures { λ r. ⌜ r ≤ 340 ⌝ }
 {
-    if octets < 6 {
-        return 0;
-    }
-    if 127 < octets {
-        return 0;
-    }
-    if 1 < ack {
-        return 0;
-    }
-    exchange_time(octets as u64, ack == 1).0 as u32
+    calls::exchange_time(octets, ack)
 }

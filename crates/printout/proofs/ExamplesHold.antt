@@ -8,7 +8,7 @@ use Rattle.balanced.specs.Lines.{letter}
 use Rattle.nodes.proofs.Computing.{lists}
 use Rattle.report.specs.Text.{numbers, refusalText}
 use Rattle.report.specs.TreeText.{treeHeader, nodeText, treeText}
-use Rattle.planner.specs.Plans.{printed}
+use Rattle.plan_model.specs.Plans.{printed}
 use Rattle.batch.specs.Output.{tooLong}
 use Rattle.printout.specs.Output.{valueOf, isUnreadable, lossIn, argued, besideOf, sinkOf, argumentConditions, callOutcome, treeOutput}
 use Rattle.printout.specs.Examples.{argumentAt, argumentsIn, balancedList, common, brokenList, examples, ours, ExamplesHold}

@@ -27,7 +27,7 @@ use Rattle.nodes.proofs.LawsHold.{every-text-keeps}
 use Rattle.report.specs.Text.{refusalText}
 use Rattle.report.specs.TreeText.{treeHeader, treeText}
 use Rattle.report.proofs.OneTreeText.{one-text-for-trees}
-use Rattle.planner.specs.Plans.{printed}
+use Rattle.plan_model.specs.Plans.{printed}
 use Rattle.batch.specs.Output.{tooLong}
 use Rattle.settings.specs.declared.Settings.{Settings}
 use Rattle.printout.specs.Output.{lossIn, argued, besideOf, sinkOf, argumentConditions, callOutcome, treeOutput}

@@ -14,9 +14,9 @@ use Rattle.refusals.specs.Conditions.{Condition, firstBroken}
 use Rattle.refusals.proofs.Answering.{verdict, first-part-answers, second-part-answers}
 use Rattle.refusals.proofs.Unbroken.{kept-unbroken, unbroken-first, unbroken-left, unbroken-right}
 use Rattle.settings.specs.declared.Settings.{Settings}
-use Rattle.planner.specs.declared.Plan.{Plan}
-use Rattle.planner.specs.Plans.{answer, written, printed}
-use Rattle.planner.proofs.Answered.{refused-printed, planned-printed}
+use Rattle.plan_model.specs.declared.Plan.{Plan}
+use Rattle.plan_model.specs.Plans.{answer, written, printed}
+use Rattle.plan_model.proofs.Answered.{refused-printed, planned-printed}
 use Rattle.report.specs.TreeText.{treeText}
 use Rattle.report.specs.Text.{refusalText}
 use Rattle.tree.specs.declared.NodeLine.{NodeLine}

@@ -14,7 +14,7 @@ use Rattle.tree.specs.Promise.{Keeps}
 use Rattle.nodes.specs.Survey.{treeIn, surveyed, outcomeIn}
 use Rattle.report.specs.Text.{refusalText}
 use Rattle.report.specs.TreeText.{treeText}
-use Rattle.planner.specs.Plans.{printed}
+use Rattle.plan_model.specs.Plans.{printed}
 use Rattle.printout.specs.declared.Arguments.{Arguments}
 use Rattle.printout.specs.Output.{argued, besideOf, sinkOf, treeOutput}
 

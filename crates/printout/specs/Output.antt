@@ -16,7 +16,7 @@ use Rattle.refusals.specs.Outcome.{Planned, Refused}
 use Rattle.tree.specs.Outcome.{TreeOutcome}
 use Rattle.nodes.specs.Survey.{treeIn, surveyed}
 use Rattle.report.specs.TreeText.{treeText}
-use Rattle.planner.specs.Plans.{printed}
+use Rattle.plan_model.specs.Plans.{printed}
 use Rattle.printout.specs.declared.Arguments.{Arguments}
 use Rattle.batch.specs.Output.{tooLong}
 

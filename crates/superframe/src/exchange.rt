@@ -1,8 +1,8 @@
 // How long the exchange of one frame lasts, X (document 01, 'Time on the air'), from a table (document 02, E4).
 ghost use mathlib.Core.Path.{_≡_};
 ghost use Prim.Native.Nat.{_≤_};
-ghost use Rattle.superframe.specs.Exchange.{exchangeFor};
-ghost use Rattle.superframe.specs.ExchangeTable.{entryFor, InOrder};
+ghost use Rattle.superframe_model.specs.Exchange.{exchangeFor};
+ghost use Rattle.superframe_model.specs.ExchangeTable.{entryFor, InOrder};
 use measure::Symbols;
 
 // The longest exchange of all: 127 octets, acknowledged.

@@ -1,7 +1,7 @@
 // How long an exchange lasts where some tries of its frame may fail (document 02, E5).
 ghost use mathlib.Core.Path.{_≡_};
 ghost use Prim.Native.Nat.{min, _≤_};
-ghost use Rattle.superframe.specs.Loss.{lossyExchangeFor};
+ghost use Rattle.superframe_model.specs.Loss.{lossyExchangeFor};
 use crate::exchange::exchange_time;
 use measure::Symbols;
 

@@ -3,7 +3,7 @@
 ghost use mathlib.Core.Path.{_≡_};
 ghost use Prim.Native.Nat.{min, _+_, _≤_};
 ghost use Rattle.measure.specs.Measures.{upTo64, within, largest, slots};
-ghost use Rattle.superframe.specs.Orders.{beaconInterval, superframe, slot, beaconLength, contention, reservable};
+ghost use Rattle.superframe_model.specs.Orders.{beaconInterval, superframe, slot, beaconLength, contention, reservable};
 use measure::Slots;
 use measure::Symbols;
 use measure::number::product;

@@ -1,4 +1,4 @@
--- What the inner functions of surveyed trees' plans require and answer; what a reader must believe stands in `tree`, `nodes` and `planner`. Assumes nothing.
+-- What the inner functions of surveyed trees' plans require and answer; what a reader must believe stands in `tree`, `nodes` and `plan_model`. Assumes nothing.
 -- the reading of a list
 pub mod Lists
 -- the walk

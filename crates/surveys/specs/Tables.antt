@@ -13,7 +13,7 @@ use Rattle.refusals.specs.Conditions.{Condition, condition}
 use Rattle.measure.specs.declared.Slots.{Slots}
 use Rattle.measure.specs.declared.Symbols.{Symbols}
 use Rattle.measure.specs.Measures.{symbols, slots, frames, perInterval, wholeFrames}
-use Rattle.superframe.specs.Orders.{reservable}
+use Rattle.superframe_model.specs.Orders.{reservable}
 use Rattle.network.specs.Counting.{bit, join}
 use Rattle.links.specs.declared.Timing.{Timing}
 use Rattle.links.specs.declared.Load.{Load}

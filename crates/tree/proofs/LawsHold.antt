@@ -7,8 +7,8 @@ use native.Mathlib.Decide.{ℕ-discrete}
 use native.Mathlib.Omega.{arith}
 use borrow.Author.Tests.{eq-eqb, ne-eqb, lt-ltb}
 use Rattle.measure.specs.declared.Slots.{Slots}
-use Rattle.superframe.specs.Reservation.{Smallest}
-use Rattle.superframe.proofs.OrderLaws.{window-fits}
+use Rattle.superframe_model.specs.Reservation.{Smallest}
+use Rattle.superframe_model.proofs.OrderLaws.{window-fits}
 use Rattle.network.specs.Counting.{All, none, each, bit}
 use Rattle.network.proofs.Lists.{All-join}
 use Rattle.links.specs.Link.{slotsOf}

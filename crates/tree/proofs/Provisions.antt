@@ -10,8 +10,8 @@ use lib.Dec.{eqb}
 use borrow.Author.Tests.{eqb-true, eqb-false, not-true}
 use Rattle.measure.specs.declared.Slots.{Slots}
 use Rattle.measure.specs.declared.Rate.{Rate}
-use Rattle.superframe.specs.Reservation.{framesIn}
-use Rattle.superframe.proofs.ReservationLaws.{frames-fit, latency-sum}
+use Rattle.superframe_model.specs.Reservation.{framesIn}
+use Rattle.superframe_model.proofs.ReservationLaws.{frames-fit, latency-sum}
 use Rattle.network.specs.Counting.{total, bit}
 use Rattle.network.specs.Model.{Network}
 use Rattle.network.specs.Run.{feeds}

@@ -9,7 +9,7 @@ use Rattle.refusals.specs.declared.TreeRefusal.the-variants.{RouterReservations
 use Rattle.refusals.specs.Conditions.{Condition, condition}
 use Rattle.measure.specs.declared.Slots.{Slots}
 use Rattle.measure.specs.Measures.{slots}
-use Rattle.superframe.specs.Orders.{reservable}
+use Rattle.superframe_model.specs.Orders.{reservable}
 use Rattle.links.specs.Link.{slotsOf}
 use Rattle.network.specs.Counting.{bit}
 use Rattle.settings.specs.declared.Settings.{Settings}

@@ -5,7 +5,7 @@ use mathlib.Core.Logic.{_↔_}
 use mathlib.Core.Bool.{false}
 use mathlib.Core.List.{List}
 use Prim.Native.Nat.{ℕ, _≤_, _<_, _^_}
-use Rattle.superframe.specs.Reservation.{Smallest}
+use Rattle.superframe_model.specs.Reservation.{Smallest}
 use Rattle.network.specs.Counting.{All}
 use Rattle.links.specs.declared.Load.{Load}
 use Rattle.settings.specs.declared.Settings.{Settings}

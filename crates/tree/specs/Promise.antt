@@ -9,7 +9,7 @@ use Prim.Native.Nat.{ℕ, suc, _+_, _-_, _*_, _≤_, _<_, max}
 use lib.Dec.{leb}
 use lib.ListN.{length, getD}
 use Rattle.measure.specs.Measures.{symbols}
-use Rattle.superframe.specs.Reservation.{framesIn}
+use Rattle.superframe_model.specs.Reservation.{framesIn}
 use Rattle.network.specs.Counting.{total, count, All}
 use Rattle.network.specs.Model.{Network, State, queue}
 use Rattle.network.specs.Readings.{Reading, made}

@@ -10,9 +10,9 @@ use superframe::orders::contention_slots;
 use superframe::orders::reservable_slots;
 use superframe::orders::slot_length;
 use superframe::orders::superframe_duration;
-use superframe::reservation::frames_in;
-use superframe::reservation::latency_of;
-use superframe::reservation::slots_for;
+use superframe_reservation::frames_in;
+use superframe_reservation::latency_of;
+use superframe_reservation::slots_for;
 
 fn main() {
     orders();

@@ -4,7 +4,7 @@ use lib.Seq.{sets}
 use borrow.Author.Needs.{needs}
 use Rattle.balanced.specs.Outcome.{RowOutcome}
 use Rattle.report.specs.Text.{text}
-use Rattle.planner.specs.Plans.{answer, written}
+use Rattle.plan_model.specs.Plans.{answer, written}
 use Rattle.answers.specs.Inner.{readOutcome}
 use Rattle.answers.proofs.Reading.{named-outcome}
 use Rattle.answers.proofs.plan_named_row.Statement.{statement}

@@ -1,8 +1,8 @@
 -- `answers::plan_read` meets its contract. Assumes nothing.
 use mathlib.Core.Path.{refl}
 use borrow.Author.Needs.{needs}
-use Rattle.planner.specs.Plans.{answer, written}
-use Rattle.planner.proofs.Answered.{refused-short}
+use Rattle.plan_model.specs.Plans.{answer, written}
+use Rattle.plan_model.proofs.Answered.{refused-short}
 use Rattle.answers.specs.Inner.{readOutcome}
 use Rattle.answers.proofs.plan_read.Statement.{statement}
 use Rattle.answers.proofs.plan_read.Tie as tie

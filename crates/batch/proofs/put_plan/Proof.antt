@@ -7,7 +7,7 @@ use lib.Seq.{sets}
 use borrow.Author.Needs.{needs}
 use Rattle.answers.specs.Outcomes.{rowOutcome}
 use Rattle.report.specs.Text.{text}
-use Rattle.planner.proofs.Answered.{refused-printed, planned-printed}
+use Rattle.plan_model.proofs.Answered.{refused-printed, planned-printed}
 use Rattle.batch.specs.Output.{printed}
 use Rattle.batch.proofs.put_plan.Statement.{statement}
 use Rattle.batch.proofs.put_plan.Tie as tie

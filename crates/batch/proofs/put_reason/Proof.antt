@@ -2,9 +2,9 @@
 use mathlib.Core.Path.{ap, _∙_}
 use mathlib.Core.List.{[], _∷_}
 use Rattle.lines.specs.Text.{ended}
-use Rattle.planner.specs.declared.Plan.{Plan}
+use Rattle.plan_model.specs.declared.Plan.{Plan}
 use Rattle.answers.specs.Outcomes.{rowOutcome}
-use Rattle.reasons.specs.Reasons.{spoken}
+use Rattle.reason_model.specs.Reasons.{spoken}
 use Rattle.batch.proofs.Inputs.{spoken-verdict}
 use borrow.Author.Needs.{needs}
 use Rattle.batch.proofs.put_reason.Statement.{statement}

@@ -1,5 +1,5 @@
 -- `batch::put_refused` meets its contract. Assumes nothing.
-use Rattle.planner.specs.Plans as plans
+use Rattle.plan_model.specs.Plans as plans
 use Rattle.batch.specs.Output.{printed}
 use borrow.Author.Needs.{needs}
 use Rattle.batch.proofs.put_refused.Statement.{statement}

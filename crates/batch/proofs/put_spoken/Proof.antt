@@ -2,7 +2,7 @@
 use mathlib.Core.Path.{sym, _∙_}
 use native.Mathlib.Omega.{arith}
 use native.Mathlib.Nat.{zero-add}
-use Rattle.reasons.specs.Reasons.{spoken}
+use Rattle.reason_model.specs.Reasons.{spoken}
 use Rattle.buffer.proofs.Behind.{Put, byte-behind, front-ends}
 use Rattle.batch.proofs.Inputs.{ended-one}
 use borrow.Author.Needs.{needs}

@@ -7,7 +7,7 @@ use lib.ListN.{length}
 use lib.Seq.{sets}
 use Rattle.nodes.specs.Survey.{outcomeIn}
 use Rattle.settings.specs.declared.Settings.{Settings}
-use Rattle.planner.specs.Plans.{answer, written}
+use Rattle.plan_model.specs.Plans.{answer, written}
 use Rattle.report.specs.TreeText.{treeText}
 use Rattle.printout.proofs.Outputs.{output-refused, plan-refused, plan-planned}
 use borrow.Author.Needs.{needs}

@@ -5,9 +5,9 @@ use native.Mathlib.Omega.{arith}
 use Rattle.refusals.proofs.Answering.{verdict}
 use Rattle.tree.specs.Tree.{treeOf}
 use Rattle.tree.specs.Outcome.{TreeOutcome}
-use Rattle.planner.specs.Plans.{answer, written}
+use Rattle.plan_model.specs.Plans.{answer, written}
 use Rattle.surveys.proofs.Shaped.{before-slots-same}
-use Rattle.planner.proofs.Answered.{refused-answer, refused-short, refused-put}
+use Rattle.plan_model.proofs.Answered.{refused-answer, refused-short, refused-put}
 use Rattle.report.specs.TreeText.{treeText}
 use Rattle.surveys.proofs.Answers.{before-broken, before-kept, before-checked, before-sink}
 use borrow.Author.Needs.{needs}

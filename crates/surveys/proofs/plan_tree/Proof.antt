@@ -5,9 +5,9 @@ use native.Mathlib.Omega.{arith}
 use lib.Seq.{sets, length-take-le}
 use Rattle.tree.specs.Tree.{Tree}
 use Rattle.tree.specs.Outcome.{TreeOutcome}
-use Rattle.planner.specs.Plans.{answer, written}
+use Rattle.plan_model.specs.Plans.{answer, written}
 use Rattle.surveys.specs.Inner.{listedOutcome}
-use Rattle.planner.proofs.Answered.{refused-answer, refused-short, refused-put}
+use Rattle.plan_model.proofs.Answered.{refused-answer, refused-short, refused-put}
 use Rattle.report.specs.TreeText.{treeText}
 use Rattle.surveys.proofs.Answers.{text-broken, text-kept, few-nodes, tree-taken, listing, plan-keeps}
 use borrow.Author.Needs.{needs}

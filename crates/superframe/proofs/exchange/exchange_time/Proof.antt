@@ -3,8 +3,8 @@ use mathlib.Core.Path.{_≡_, refl, sym, _∙_}
 use Prim.Native.Nat.{_-_, _*_}
 use native.Mathlib.Omega.{arith}
 use mathlib.Core.Bool.{true, false}
-use Rattle.superframe.specs.ExchangeTable.{InOrder, placeOf}
-use Rattle.superframe.proofs.ExchangeLaws.{exchange-for-short, exchange-for-long, exchange-for-octets}
+use Rattle.superframe_model.specs.ExchangeTable.{InOrder, placeOf}
+use Rattle.superframe_model.proofs.ExchangeLaws.{exchange-for-short, exchange-for-long, exchange-for-octets}
 use borrow.Author.Needs.{needs}
 use Rattle.superframe.proofs.exchange.exchange_time.Statement.{statement}
 use Rattle.superframe.proofs.exchange.exchange_time.Tie as tie

@@ -1,7 +1,7 @@
 -- `superframe::exchange::table_entry` meets its contract. Assumes nothing.
-use Rattle.superframe.specs.Exchange.{airTime, acknowledgement, spacing, exchange}
-use Rattle.superframe.specs.ExchangeTable.{entriesFrom, table}
-use Rattle.superframe.proofs.TableLaws.{entry-is, entry-none, in-order, table-fits}
+use Rattle.superframe_model.specs.Exchange.{airTime, acknowledgement, spacing, exchange}
+use Rattle.superframe_model.specs.ExchangeTable.{entriesFrom, table}
+use Rattle.superframe_model.proofs.TableLaws.{entry-is, entry-none, in-order, table-fits}
 use borrow.Author.Needs.{needs}
 use Rattle.superframe.proofs.exchange.table_entry.Statement.{statement}
 use Rattle.superframe.proofs.exchange.table_entry.Tie as tie

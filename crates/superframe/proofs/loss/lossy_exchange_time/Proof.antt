@@ -1,6 +1,6 @@
 -- `superframe::loss::lossy_exchange_time` meets its contract. Assumes nothing.
 use native.Mathlib.Omega.{arith}
-use Rattle.superframe.proofs.LossLaws.{answered-most, failures-most, lossy-made}
+use Rattle.superframe_model.proofs.LossLaws.{answered-most, failures-most, lossy-made}
 use borrow.Author.Needs.{needs}
 use Rattle.superframe.proofs.loss.lossy_exchange_time.Statement.{statement}
 use Rattle.superframe.proofs.loss.lossy_exchange_time.Tie as tie

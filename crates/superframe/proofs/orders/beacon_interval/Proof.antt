@@ -2,8 +2,8 @@
 use mathlib.Core.Path.{ap}
 use Rattle.measure.specs.Measures.{symbols}
 use native.Mathlib.Omega.{arith}
-use Rattle.superframe.proofs.OrderLaws.{shifted}
-use Rattle.superframe.specs.Orders.{beaconInterval}
+use Rattle.superframe_model.proofs.OrderLaws.{shifted}
+use Rattle.superframe_model.specs.Orders.{beaconInterval}
 use borrow.Author.Needs.{needs}
 use Rattle.superframe.proofs.orders.beacon_interval.Statement.{statement}
 use Rattle.superframe.proofs.orders.beacon_interval.Tie as tie

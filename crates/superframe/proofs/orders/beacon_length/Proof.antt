@@ -1,7 +1,7 @@
 -- `superframe::orders::beacon_length` meets its contract. Assumes nothing.
 use mathlib.Core.Path.{_≡_}
 use native.Mathlib.Omega.{arith}
-use Rattle.superframe.proofs.OrderLaws.{beacon-none, beacon-of}
+use Rattle.superframe_model.proofs.OrderLaws.{beacon-none, beacon-of}
 use borrow.Author.Needs.{needs}
 use Rattle.superframe.proofs.orders.beacon_length.Statement.{statement}
 use Rattle.superframe.proofs.orders.beacon_length.Tie as tie

@@ -5,7 +5,7 @@ use native.Mathlib.Omega.{arith}
 use Rattle.measure.specs.declared.Symbols.{Symbols}
 use Rattle.measure.specs.Measures.{slots, roundedUp}
 use Rattle.measure.proofs.Limits.{within-fits, within-past}
-use Rattle.superframe.specs.Orders.{beaconLength, contention}
+use Rattle.superframe_model.specs.Orders.{beaconLength, contention}
 use borrow.Author.Needs.{needs}
 use Rattle.superframe.proofs.orders.contention_slots.Statement.{statement}
 use Rattle.superframe.proofs.orders.contention_slots.Tie as tie

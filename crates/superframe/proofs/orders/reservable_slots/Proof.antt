@@ -5,8 +5,8 @@ use native.Mathlib.Decide.{decLe}
 use native.Mathlib.Omega.{arith}
 use Rattle.measure.specs.Measures.{slots, within, largest}
 use Rattle.measure.proofs.Limits.{within-fits, within-past}
-use Rattle.superframe.specs.Orders.{beaconLength, contention, reservable}
-use Rattle.superframe.proofs.OrderLaws.{reservable-past}
+use Rattle.superframe_model.specs.Orders.{beaconLength, contention, reservable}
+use Rattle.superframe_model.proofs.OrderLaws.{reservable-past}
 use borrow.Author.Needs.{needs}
 use Rattle.superframe.proofs.orders.reservable_slots.Statement.{statement}
 use Rattle.superframe.proofs.orders.reservable_slots.Tie as tie

@@ -2,8 +2,8 @@
 use mathlib.Core.Path.{ap}
 use Rattle.measure.specs.Measures.{symbols}
 use native.Mathlib.Omega.{arith}
-use Rattle.superframe.proofs.OrderLaws.{shifted}
-use Rattle.superframe.specs.Orders.{superframe}
+use Rattle.superframe_model.proofs.OrderLaws.{shifted}
+use Rattle.superframe_model.specs.Orders.{superframe}
 use borrow.Author.Needs.{needs}
 use Rattle.superframe.proofs.orders.superframe_duration.Statement.{statement}
 use Rattle.superframe.proofs.orders.superframe_duration.Tie as tie

@@ -6,13 +6,13 @@ use native.Mathlib.Omega.{arith}
 use lib.ListN.{length}
 use lib.Seq.{sets}
 use Rattle.refusals.proofs.Answering.{verdict}
-use Rattle.planner.proofs.TimesMade.{timing-fits}
+use Rattle.plan_model.proofs.TimesMade.{timing-fits}
 use Rattle.report.specs.TreeText.{treeText}
 use Rattle.tree.specs.declared.NodeLine.{NodeLine}
 use Rattle.tree.specs.Tree.{treeOf}
 use Rattle.tree.specs.Lines.{lines}
 use Rattle.surveys.proofs.Tabled.{Tabled, given, tabled}
-use Rattle.planner.proofs.Answered.{refused-answer, refused-short, refused-put, planned-answer, planned-put}
+use Rattle.plan_model.proofs.Answered.{refused-answer, refused-short, refused-put, planned-answer, planned-put}
 use Rattle.report.specs.TreeText.{treeText}
 use Rattle.surveys.proofs.Answers.{slots-broken, slots-kept}
 use borrow.Author.Needs.{needs}

@@ -1,7 +1,7 @@
 -- `surveys::plans::superframes_fit` meets its contract. Assumes nothing.
 use Prim.Native.Nat.{_-_, _*_, _^_, _%_}
 use native.Mathlib.Omega.{arith}
-use Rattle.planner.proofs.Conditions.{one-shifted}
+use Rattle.plan_model.proofs.Conditions.{one-shifted}
 use Rattle.surveys.specs.Inner.{shape}
 use Rattle.surveys.proofs.Answers.{routers-over, routers-in}
 use Rattle.surveys.proofs.plans.superframes_fit.Statement.{statement}

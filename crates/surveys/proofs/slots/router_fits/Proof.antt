@@ -2,7 +2,7 @@
 use mathlib.Core.Path.{_≡_, ap, _∙_}
 use Prim.Native.Nat.{ℕ, min}
 use native.Mathlib.Omega.{arith}
-use Rattle.superframe.specs.Orders.{reservable}
+use Rattle.superframe_model.specs.Orders.{reservable}
 use Rattle.surveys.proofs.Reserving.{router-crowded, router-full, router-fits}
 use borrow.Author.Needs.{needs}
 use Rattle.surveys.proofs.slots.router_fits.Statement.{statement}

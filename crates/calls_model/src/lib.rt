@@ -1,0 +1,17 @@
+// What calls from bytes answer and leave in a lent buffer, and what they promise: definitions, laws and examples, and no function. Crates
+// calls, row_calls and tree_calls answer them, and planner_c hands them to C.
+
+// What a call answers: 0, 0 and the text's length where the row is planned; else number and place of the refusal, and 0.
+#[repr(C)]
+pub struct Answer {
+    pub number: u32,
+    pub place: u32,
+    pub length: u64,
+}
+
+// Number and place of a refusal; 0 and 0 where there is none.
+#[repr(C)]
+pub struct Numbered {
+    pub number: u32,
+    pub place: u32,
+}

@@ -1,9 +1,0 @@
--- Definitions of the planner's answers. Assumes nothing.
--- what a reader must believe: the answer to an outcome, and what is put
-pub mod Plans
--- the times of any settings
-pub mod Times
--- what the inner functions presume and answer
-pub mod Inner
--- how they put lines
-pub mod Pages

@@ -1,0 +1,17 @@
+-- To unfold `worded` is to unfold all that a line is computed with, and `taken-in` all that number and place of a line are. Assumes nothing.
+use Rattle.decimal.specs.Ascii.{ascii}
+use Rattle.decimal.specs.Number.{digits, zeroLed, spelledAfter}
+use Rattle.decimal.specs.Decimal.{digitsBy, decimal}
+use Rattle.lines.specs.Text.{same}
+use Rattle.refusals.specs.Refusals.{conflictPlace, treeNumber, treePlace, numberOf, placeOf}
+use Rattle.settings.specs.Columns.{twelve, table, columnAt}
+use Rattle.reason_model.specs.Reasons.{named, columnName, ruleOf, treePhrase, phraseOf, valuesAtOdds, treeValues, valuesOf, partOf, partText, taken, filled, reason, spoken}
+use Rattle.reason_model.specs.Reading.{wordByte, wordLength, numeral, placeIn, columnFrom, unnamed, columnIn, extent, meant, matched, sorts, readAs, readFrom, readReason}
+
+unfoldable pub worded : Type 0
+unfolding ascii digitsBy decimal conflictPlace treeNumber treePlace numberOf placeOf twelve table columnAt named columnName ruleOf treePhrase phraseOf valuesAtOdds treeValues valuesOf partOf partText taken filled reason spoken
+worded = Unit
+
+unfoldable pub taken-in : Type 0
+unfolding worded digits zeroLed spelledAfter same wordByte wordLength numeral placeIn columnFrom unnamed columnIn extent meant matched sorts readAs readFrom readReason
+taken-in = Unit

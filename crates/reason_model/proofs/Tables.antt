@@ -1,0 +1,57 @@
+-- The phrases and the columns' names, had again from constants in which they stand one behind another. Assumes nothing.
+use mathlib.Core.Path.{_≡_, refl, sym, ap, _∙_}
+use mathlib.Core.List.{List, [], _∷_, map}
+use Prim.Native.Nat.{ℕ, suc, _+_, _-_, _≤_, _<_}
+use native.Mathlib.Omega.{arith}
+use native.Mathlib.Numerals.{add-one}
+use lib.Dec.{leb}
+use lib.ListN.{length, getD, take, drop, List·getD-map, List·getD-eq-default}
+use borrow.Author.Tests.{leb-true}
+use Rattle.decimal.specs.Ascii.{ascii}
+use Rattle.refusals.specs.declared.Refusal.the-variants.{Names}
+use Rattle.refusals.specs.Refusals.{conflictPlace}
+use Rattle.settings.specs.Columns.{Column, column, twelve, table, columnAt}
+use Rattle.reason_model.specs.Reasons.{named, columnName, ruleOf, treePhrase, phraseOf}
+use Rattle.reason_model.specs.Reading.{sorts}
+use Rattle.reason_model.specs.Inner.{sortAt, phraseAt, joined, phrases, names}
+use Rattle.reason_model.proofs.Texts.{start, Between, between}
+use Rattle.reason_model.proofs.Sorts.{in-range}
+use Rattle.reason_model.proofs.ColumnNames.{allBelow, each-below, name-at}
+
+-- a text of a constant: its start is not behind its end, its end is inside, and between them it stands
+pub record Stands (ts : List (List ℕ)) (a b : ℕ) (t : List ℕ) : Type 0 where
+  pub order : a ≤ b
+  pub inside : b ≤ length (joined ts)
+  pub text : take (b - a) (drop a (joined ts)) ≡ t
+
+stands : (ts : List (List ℕ)) (k : ℕ) → k < length ts → Stands ts (start 0 ts k) (start 0 ts (suc k)) (getD ts k [])
+stands ts k h =
+    let b = between 0 ts k h in
+    let x : start 0 ts k - 0 ≡ start 0 ts k = omega arith in
+    record { order = b .order; inside = omega (arith, b .inside); text = rw x at (b .text) }
+
+-- the phrase of a sort
+pub phrase-stands : (k : ℕ) → k < 21 → Stands phrases (start 0 phrases k) (start 0 phrases (k + 1)) (phraseAt k)
+unfolding phrases sorts phraseAt sortAt
+phrase-stands k h =
+    let e : getD phrases k [] ≡ phraseAt k = in-range phrases k [] (phraseOf Names) h ∙ List·getD-map phraseOf sorts k Names in
+    rw (add-one, sym e) (stands phrases k h)
+
+-- a sort that the table does not have counts as the first
+pub phrase-else : (k : ℕ) → 21 ≤ k → phraseAt 0 ≡ phraseAt k
+unfolding phraseAt sortAt sorts
+phrase-else k h = ap phraseOf (sym (List·getD-eq-default sorts Names h))
+
+-- no phrase is longer than 128 bytes
+pub phrase-short : (k : ℕ) → k < 21 → length (phraseAt k) ≤ 128
+unfolding allBelow ascii twelve table columnAt conflictPlace named columnName ruleOf treePhrase phraseOf sorts sortAt phraseAt
+phrase-short k h = leb-true (length (phraseAt k)) 128 (each-below (λ j. leb (length (phraseAt j)) 128) 21 refl k h)
+
+-- the name of a column that has one
+pub name-stands : (k : ℕ) → 1 ≤ k → k ≤ 13 → Stands names (start 0 names (k - 1)) (start 0 names k) (columnName k)
+unfolding names twelve table columnAt
+name-stands k low high =
+    let z : suc (k - 1) ≡ k = omega (arith, low) in
+    let h : k - 1 < 13 = omega (arith, low, high) in
+    let e : getD names (k - 1) [] ≡ columnName k = in-range names (k - 1) [] (ascii "") h ∙ List·getD-map (λ (c : Column). ascii (c .name)) table (k - 1) (column "" 0 0) ∙ sym (name-at (k - 1) h) ∙ ap columnName z in
+    rw (z, e) at (stands names (k - 1) h)

@@ -1,0 +1,32 @@
+-- `row_calls::check_row` meets its contract. Assumes nothing.
+use Rattle.answers.specs.Outcomes.{namedOutcome}
+use Rattle.report.specs.Text.{text}
+use Rattle.calls_model.specs.Entries.{checkRow}
+use borrow.Author.Needs.{needs}
+use Rattle.calls_model.proofs.Leaving.{plan-told, told-short}
+use Rattle.row_calls.proofs.check_row.Statement.{statement}
+use Rattle.row_calls.proofs.check_row.Tie as tie
+
+slice-aggregate-plan-named-row : tie.Need-slice-aggregate-plan-named-row
+slice-aggregate-plan-named-row c = search needs
+
+plan-named-row-requires : tie.Need-plan-named-row-requires
+plan-named-row-requires c κs = search needs
+
+answer-of-requires : tie.Need-answer-of-requires
+answer-of-requires c κs = search needs
+
+returns : tie.Need-returns
+unfolding checkRow
+returns c =
+    let a = c .before .before .before .before .before .before .args in
+    let plan = c .before .before .plan-named-row in
+    let w = plan .ensures in (
+      plan-told text (namedOutcome (a .names .now) (a .row .now)) (plan .result) (w .0) _ (c .answer-of .ensures),
+      told-short text (namedOutcome (a .names .now) (a .row .now)) (plan .result) (w .0) 4476 _ (c .answer-of .ensures) (w .1 .0),
+    )
+
+pub check-row-spec : {M : Type 1} → statement M
+check-row-spec =
+    tie.close
+    (tie.spec slice-aggregate-plan-named-row plan-named-row-requires answer-of-requires returns)

@@ -1,0 +1,58 @@
+-- `row_print::plan_of` meets its contract. Assumes nothing.
+use mathlib.Core.Path.{sym, _∙_}
+use borrow.Author.Needs.{needs}
+use Rattle.balanced.specs.Lines.{lines}
+use Rattle.report.specs.Text.{text}
+use Rattle.plan_model.proofs.Answers.{broken-refused, kept-planned, plan-keeps}
+use Rattle.plan_model.proofs.Answered.{refused-answer, refused-put, refused-short, planned-answer, planned-put}
+use Rattle.row_print.proofs.plan_of.Statement.{statement}
+use Rattle.row_print.proofs.plan_of.Tie as tie
+
+decide-requires : tie.Need-decide-requires
+decide-requires c κs = search needs
+
+enum-known-verdict : tie.Need-enum-known-verdict
+enum-known-verdict c = search needs
+
+refused-plan-requires : tie.Need-refused-plan-requires
+refused-plan-requires c κs = search needs
+
+returns : tie.Need-returns
+returns c =
+    let a = c .before .before .before .before .before .before .before .before .args in
+    let o = broken-refused (a .s) _ (sym (c .before .before .before .before .decide .ensures .0) ∙ c .before .before .verdict .given .1) in
+    let e = c .refused-plan .ensures ∙ refused-answer text _ _ o in
+    (e, (refused-short 4476 _ _ (c .refused-plan .ensures), (refused-put text _ _ (a .out .now) o, plan-keeps (a .s) (c .refused-plan .result) e)))
+
+enum-told : tie.Need-enum-told
+enum-told c = search needs
+
+put-lines-requires : tie.Need-put-lines-requires
+put-lines-requires c κs =
+    let h = c .before .before .before .before .before .decide .ensures .1 (c .before .before .before .enum-told .given .1) in
+    (h .sound, (h .interval, (h .end, (h .upward, (h .downward, h .arriving)))))
+
+same-length : tie.Need-same-length
+same-length c = search needs
+
+returns-2 : tie.Need-returns-2
+returns-2 c =
+    let a = c .before .before .before .before .before .before .before .before .before .before .before .before .args in
+    let k = c .before .before .before .before .before .before .enum-told .given .1 in
+    let o = kept-planned (a .s) (sym (c .before .before .before .before .before .before .before .before .decide .ensures .0) ∙ k) in
+    let w = c .before .before .put-lines .ensures in
+    let e = planned-answer text _ (lines (a .s)) _ o k (w .0) in
+    (e, (w .1 .0, (planned-put text _ (lines (a .s)) (a .out .now) _ o (w .1 .1), plan-keeps (a .s) _ e)))
+
+pub plan-of-spec : {M : Type 1} → statement M
+plan-of-spec =
+    tie.close
+    (tie.spec
+    decide-requires
+    enum-known-verdict
+    refused-plan-requires
+    returns
+    enum-told
+    put-lines-requires
+    same-length
+    returns-2)

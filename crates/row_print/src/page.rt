@@ -1,0 +1,171 @@
+// The lines of a plan, put one behind another in lent memory. What is required here `put_lines` meets.
+ghost use mathlib.Core.Path.{_≡_};
+ghost use Prim.Native.Nat.{_+_, _≤_};
+ghost use Rattle.links.specs.Answers.{figuresAnswered};
+ghost use Rattle.balanced.specs.Times.{timingOf};
+ghost use Rattle.balanced.specs.Loads.{sensor, atSink};
+ghost use Rattle.balanced.specs.declared.Kind.the-variants.{Sink};
+ghost use Rattle.balanced.specs.Lines.{line, totalDelay, sinkFigures, endLines, upLines};
+ghost use Rattle.balanced.specs.Bounds.{Sound};
+ghost use Rattle.plan_model.specs.Inner.{HeldFrom, HeldBelow, linkOf, linkUp, linkDown};
+ghost use Rattle.plan_model.specs.Pages.{page, pushed, filled, downLinesFrom};
+use balanced::Kind;
+use balanced::Line;
+use links::Figures;
+use links::Load;
+use measure::Frames;
+use measure::Slots;
+use measure::Symbols;
+use plan_model::Link;
+use plan_model::Written;
+use row_loads::table::link_at;
+use settings::Settings;
+
+// Puts one line more.
+fn put_next(out: &mut [u8], w: Written, line: Line) -> Written
+    requires { ⌜ w .end ≤ 4306 ⌝ }
+    ensures { λ r. ⌜ page r (now (out .exit)) ≡ pushed (page w (now (out .entry))) line ⌝ }
+    ensures { λ r. ⌜ r .end ≤ w .end + 170 ⌝ }
+{
+    let n = report::put_line(out, w.end, line);
+    Written {
+        end: w.end + n,
+        delay: w.delay.plus(line.figures.delay),
+    }
+}
+
+// Puts the line of a link.
+fn put_link(
+    out: &mut [u8],
+    w: Written,
+    interval: Symbols,
+    kind: Kind,
+    depth: u64,
+    link: Link,
+) -> Written
+    requires { ⌜ w .end ≤ 4306 ⌝ }
+    ensures { λ r. ⌜ page r (now (out .exit)) ≡ pushed (page w (now (out .entry))) (line kind depth (figuresAnswered interval (link .load) (link .reservation))) ⌝ }
+    ensures { λ r. ⌜ r .end ≤ w .end + 170 ⌝ }
+{
+    let figures = links::figures_of(interval, link.load, link.reservation);
+    put_next(
+        out,
+        w,
+        Line {
+            kind,
+            depth,
+            figures,
+        },
+    )
+}
+
+// Puts the end nodes' line, where there are end nodes.
+pub(crate) fn put_end(
+    out: &mut [u8],
+    w: Written,
+    s: Settings,
+    interval: Symbols,
+    end: Link,
+) -> Written
+    requires { ⌜ Sound s ⌝ }
+    requires { ⌜ interval ≡ timingOf s .interval ⌝ }
+    requires { ⌜ end ≡ linkOf (timingOf s) (sensor s) ⌝ }
+    requires { ⌜ w .end ≤ 56 ⌝ }
+    ensures { λ r. ⌜ page r (now (out .exit)) ≡ filled (page w (now (out .entry))) (endLines s) ⌝ }
+    ensures { λ r. ⌜ r .end ≤ 226 ⌝ }
+{
+    if s.ne == 0 {
+        return w;
+    }
+    put_link(out, w, interval, Kind::EndNode, 0, end)
+}
+
+// Puts the upward lines, from depth H down to 1.
+pub(crate) fn put_upward(
+    out: &mut [u8],
+    w: Written,
+    s: Settings,
+    interval: Symbols,
+    up: &[u64; 65],
+) -> Written
+    requires { ⌜ Sound s ⌝ }
+    requires { ⌜ interval ≡ timingOf s .interval ⌝ }
+    requires { ⌜ HeldFrom (linkUp s) 0 (s .h) (now up) ⌝ }
+    requires { ⌜ w .end ≤ 226 ⌝ }
+    ensures { λ r. ⌜ page r (now (out .exit)) ≡ filled (page w (now (out .entry))) (upLines s (s .h)) ⌝ }
+    ensures { λ r. ⌜ r .end ≤ 2266 ⌝ }
+{
+    let mut w = w;
+    let mut n = 0;
+    while n < s.h {
+        let i = s.h - n;
+        let link = link_at(up, i);
+        w = put_link(out, w, interval, Kind::Upward, i, link);
+        n += 1;
+    }
+    w
+}
+
+// Puts the downward lines, from depth 0 to SINK − 1.
+pub(crate) fn put_downward(
+    out: &mut [u8],
+    w: Written,
+    s: Settings,
+    interval: Symbols,
+    down: &[u64; 65],
+) -> Written
+    requires { ⌜ Sound s ⌝ }
+    requires { ⌜ interval ≡ timingOf s .interval ⌝ }
+    requires { ⌜ HeldBelow (linkDown s) (s .sink) (now down) ⌝ }
+    requires { ⌜ w .end ≤ 2266 ⌝ }
+    ensures { λ r. ⌜ page r (now (out .exit)) ≡ filled (page w (now (out .entry))) (downLinesFrom s (s .sink) 0) ⌝ }
+    ensures { λ r. ⌜ r .end ≤ 4306 ⌝ }
+{
+    let mut w = w;
+    let mut i = 0;
+    while i < s.sink {
+        let link = link_at(down, i);
+        w = put_link(out, w, interval, Kind::Downward, i, link);
+        i += 1;
+    }
+    w
+}
+
+// Puts line S: the load that comes to the sink, its burst in frames, and the delay of all links together.
+pub(crate) fn put_sink(
+    out: &mut [u8],
+    w: Written,
+    s: Settings,
+    interval: Symbols,
+    arriving: Load,
+) -> Written
+    requires { ⌜ interval ≡ timingOf s .interval ⌝ }
+    requires { ⌜ arriving ≡ atSink s ⌝ }
+    requires { ⌜ w .delay ≡ totalDelay s ⌝ }
+    requires { ⌜ w .end ≤ 4306 ⌝ }
+    ensures { λ r. ⌜ page r (now (out .exit)) ≡ pushed (page w (now (out .entry))) (line Sink (s .sink) (sinkFigures s)) ⌝ }
+    ensures { λ r. ⌜ r .end ≤ 4476 ⌝ }
+{
+    let rate = arriving.rate;
+    let burst = arriving.burst;
+    let buffer = measure::whole_frames(burst, interval);
+    let delay = w.delay;
+    let figures = Figures {
+        rate,
+        burst,
+        slots: Slots(0),
+        frames: Frames(0),
+        latency: Symbols(0),
+        buffer,
+        delay,
+    };
+    put_next(
+        out,
+        w,
+        Line {
+            kind: Kind::Sink,
+            depth: s.sink,
+            figures,
+        },
+    )
+}

@@ -1,0 +1,138 @@
+// Calls that plan a surveyed tree (document 02, E3 and E5), from a node list as bytes, and numbers beside it, to an answer and a text in a
+// lent buffer.
+//
+// No public function has a `requires`: each answers every argument, as equations with definitions of calls_model say. A refused tree, also
+// one whose text is longer than the buffer (number 8), leaves every byte as it was.
+ghost use mathlib.Core.Path.{_≡_};
+ghost use Prim.Native.Nat.{_≤_};
+ghost use lib.ListN.{length};
+ghost use lib.Seq.{sets};
+ghost use Rattle.tree.specs.Beside as definition;
+ghost use Rattle.calls_model.specs.Calls.{left};
+ghost use Rattle.calls_model.specs.Reasons.{ReadAgain};
+ghost use Rattle.calls_model.specs.Trees.{planTree, checkTree, treeSpoken, explainTree};
+ghost use Rattle.calls_model.specs.Promise.{PromisedTree};
+use buffer::put_bytes;
+use calls::answer_of;
+use calls::leave;
+use calls::refused;
+use calls_model::Answer;
+use reason_print::put_reason;
+use refusals::Refusal;
+use refusals::Verdict;
+use report::LONGEST_TREE;
+use settings::Settings;
+use surveys::beside;
+
+// Plans the tree of a node list, and writes nothing.
+pub fn check_tree(
+    nodes: &[u8],
+    bo: u32,
+    so: u32,
+    head: u32,
+    payload: u32,
+    ack: u32,
+    sink: u32,
+    loss: u32,
+) -> Answer
+    ensures { λ r. ⌜ r ≡ checkTree (now (nodes .entry)) (definition.beside bo so head payload ack loss) sink ⌝ }
+    ensures { λ r. ⌜ r .length ≤ 48576 ⌝ }
+{
+    let b = beside(
+        bo as u64,
+        so as u64,
+        head as u64,
+        payload as u64,
+        ack as u64,
+        loss as u64,
+    );
+    let mut space = [0u8; 1];
+    answer_of(surveys::plan_tree(nodes, b, sink as u64, &mut space))
+}
+
+// Plans the tree of a node list, and puts its text at the front of the lent buffer. A refused tree, also one whose text is longer than the
+// buffer, leaves every byte as it was.
+pub fn plan_tree(
+    nodes: &[u8],
+    bo: u32,
+    so: u32,
+    head: u32,
+    payload: u32,
+    ack: u32,
+    sink: u32,
+    loss: u32,
+    out: &mut [u8],
+) -> Answer
+    ensures { λ r. ⌜ left r (now (out .exit)) ≡ planTree (now (nodes .entry)) (definition.beside bo so head payload ack loss) sink (now (out .entry)) ⌝ }
+    ensures { λ r. ⌜ PromisedTree (now (nodes .entry)) (definition.beside bo so head payload ack loss) sink r (now (out .exit)) ⌝ }
+{
+    let b = beside(
+        bo as u64,
+        so as u64,
+        head as u64,
+        payload as u64,
+        ack as u64,
+        loss as u64,
+    );
+    if out.len() < LONGEST_TREE {
+        return plan_where_room(nodes, b, sink as u64, out);
+    }
+    answer_of(surveys::plan_tree(nodes, b, sink as u64, out))
+}
+
+// Puts one line of English at the front of the lent buffer: why the tree is refused, or that it is planned. A buffer that is shorter than the
+// line keeps every byte.
+pub fn explain_tree(
+    nodes: &[u8],
+    bo: u32,
+    so: u32,
+    head: u32,
+    payload: u32,
+    ack: u32,
+    sink: u32,
+    loss: u32,
+    out: &mut [u8],
+) -> Answer
+    ensures { λ r. ⌜ left r (now (out .exit)) ≡ explainTree (now (nodes .entry)) (definition.beside bo so head payload ack loss) sink (now (out .entry)) ⌝ }
+    ensures { λ r. ⌜ ReadAgain r (now (out .exit)) ⌝ }
+{
+    let b = beside(
+        bo as u64,
+        so as u64,
+        head as u64,
+        payload as u64,
+        ack as u64,
+        loss as u64,
+    );
+    let mut space = [0u8; 1];
+    let plan = surveys::plan_tree(nodes, b, sink as u64, &mut space);
+    let answer = answer_of(plan);
+    let verdict = plan.verdict;
+    let mut line = [0u8; reason_print::LONGEST];
+    let n = put_tree_verdict(&mut line, verdict);
+    leave(answer.number, answer.place, &line[..n], out)
+}
+
+// The plan for a buffer that may be too short: the tree is planned for the text's length alone first, and then once more.
+fn plan_where_room(nodes: &[u8], b: Settings, sink: u64, out: &mut [u8]) -> Answer
+    ensures { λ r. ⌜ left r (now (out .exit)) ≡ planTree (now (nodes .entry)) b sink (now (out .entry)) ⌝ }
+{
+    let mut space = [0u8; 1];
+    let n = surveys::plan_tree(nodes, b, sink, &mut space).length;
+    if out.len() < n {
+        return refused(Refusal::LentTooShort);
+    }
+    answer_of(surveys::plan_tree(nodes, b, sink, out))
+}
+
+// Puts the line of a tree that was refused, or that it is planned, and answers its length.
+fn put_tree_verdict(out: &mut [u8], verdict: Verdict) -> usize
+    ensures { λ r. ⌜ r ≡ length (treeSpoken verdict) ⌝ }
+    ensures { λ r. ⌜ r ≤ 160 ⌝ }
+    ensures { λ _. ⌜ now (out .exit) ≡ sets (now (out .entry)) 0 (treeSpoken verdict) ⌝ }
+{
+    if let Verdict::Broken(refusal) = verdict {
+        return put_reason(out, refusal);
+    }
+    put_bytes(out, 0, b"The tree is planned.")
+}
