@@ -4,17 +4,17 @@ use Prim.Native.Nat.{ℕ}
 use native.Mathlib.Omega.{arith}
 use lib.ListN.{take}
 use Rattle.lines.specs.Text.{joined, ended}
-use Rattle.balanced.specs.Lines.{letter}
-use Rattle.answers.proofs.Computing.{answered}
-use Rattle.report.specs.Text as report
+use Rattle.row_model.specs.Lines.{letter}
+use Rattle.row_answer_model.proofs.Computing.{answered}
+use Rattle.report_model.specs.Text as report
 use Rattle.plan_model.specs.Plans as plans
 use Rattle.reason_model.specs.declared.Reading.the-variants.{Reason}
 use Rattle.reason_model.specs.Reading.{readReason}
 use Rattle.reason_model.proofs.Computing.{worded, taken-in}
 use Rattle.calls_model.specs.Calls.{toldRefusal, told, filled, room, roomed, leaves}
 use Rattle.calls_model.specs.Entries.{planRow, checkRow}
-use Rattle.report.specs.TreeText.{treeHeader, nodeText, treeText}
-use Rattle.nodes.proofs.Computing.{lists}
+use Rattle.report_model.specs.TreeText.{treeHeader, nodeText, treeText}
+use Rattle.tree_read_model.proofs.Computing.{lists}
 use Rattle.calls_model.specs.Trees.{planTree, checkTree, treeSpoken, explainTree}
 use Rattle.calls_model.specs.TreeBroken.{pairList}
 use Rattle.calls_model.specs.Reasons.{lineLeft, rowLine, explainRow, plain, lineAmong, explainRefusal, numbered}

@@ -12,22 +12,22 @@ use Rattle.refusals.specs.Outcome.{Outcome, Planned, Refused}
 use Rattle.refusals.proofs.Numbers.{numbered}
 use Rattle.refusals.proofs.Unbroken.{unbroken-right}
 use Rattle.refusals.proofs.Outcomes.{unbroken-planned}
-use Rattle.settings.specs.declared.Settings.{Settings}
-use Rattle.row.specs.Names.{headingOf, columnsUnder}
-use Rattle.row.specs.Rows.{named, written}
-use Rattle.balanced.specs.Checks as row-checks
-use Rattle.balanced.specs.Lines as row-plan
-use Rattle.balanced.specs.Outcome.{outcomeOf}
-use Rattle.balanced.proofs.LawsHold.{every-plan-keeps}
-use Rattle.answers.specs.Outcomes.{spelledSettings, rowConditions}
-use Rattle.tree.specs.Checks as tree-checks
-use Rattle.tree.specs.Lines as tree-plan
-use Rattle.nodes.specs.Survey.{treeIn, surveyed, outcomeIn}
-use Rattle.nodes.proofs.LawsHold.{every-text-keeps}
-use Rattle.report.specs.Text.{text}
-use Rattle.report.specs.TreeText.{treeText}
-use Rattle.report.proofs.OneText.{one-text-for-lines}
-use Rattle.report.proofs.OneTreeText.{one-text-for-trees}
+use Rattle.settings_model.specs.declared.Settings.{Settings}
+use Rattle.row_read_model.specs.Names.{headingOf, columnsUnder}
+use Rattle.row_read_model.specs.Rows.{named, written}
+use Rattle.row_model.specs.Checks as row-checks
+use Rattle.row_model.specs.Lines as row-plan
+use Rattle.row_model.specs.Outcome.{outcomeOf}
+use Rattle.row_model.proofs.LawsHold.{every-plan-keeps}
+use Rattle.row_answer_model.specs.Outcomes.{spelledSettings, rowConditions}
+use Rattle.tree_model.specs.Checks as tree-checks
+use Rattle.tree_model.specs.Lines as tree-plan
+use Rattle.tree_read_model.specs.Survey.{treeIn, surveyed, outcomeIn}
+use Rattle.tree_read_model.proofs.LawsHold.{every-text-keeps}
+use Rattle.report_model.specs.Text.{text}
+use Rattle.report_model.specs.TreeText.{treeText}
+use Rattle.report_model.proofs.OneText.{one-text-for-lines}
+use Rattle.report_model.proofs.OneTreeText.{one-text-for-trees}
 use Rattle.calls_model.specs.declared.Answer.{Answer}
 use Rattle.calls_model.specs.Calls.{toldRefusal, told, filled, roomed, Left, left, leaves, IsPlanned, StandsIn}
 use Rattle.calls_model.specs.Entries.{planRow}

@@ -4,7 +4,7 @@ use mathlib.Core.List.{List, [], _∷_}
 use Prim.Native.Nat.{zero, suc, _+_, _≤_}
 use native.Mathlib.Omega.{arith}
 use lib.Dec.{lit<, lit≤}
-use Rattle.decimal.specs.Decimal.{digitsBy, decimal}
+use Rattle.decimal_model.specs.Decimal.{digitsBy, decimal}
 use Rattle.lines.specs.Text.{ended}
 use Rattle.measure.specs.Measures.{symbols, slots, frames, frameSymbols, perInterval}
 use Rattle.network.specs.Counting.{bit, below, keep, All, each}
@@ -14,15 +14,15 @@ use Rattle.network.specs.Run.{deliver, feeds, ends, arrived, endExchanges, fres
 use Rattle.network.specs.Oracle.{isStart, idle, behind, takeOldest, serve, begun, serveAll, symbol, run}
 use Rattle.network.specs.Examples.{reading, first}
 use Rattle.network.proofs.Oracles.{every-choice-is-a-run}
-use Rattle.balanced.specs.declared.Kind.the-variants.{EndNode, Sink}
-use Rattle.balanced.specs.declared.Line.{Line}
-use Rattle.balanced.specs.Lines.{line}
-use Rattle.balanced.specs.Tree.{isChild, ancestor, sinkBelow, towards, lineOf, networkOf, Windows}
-use Rattle.balanced.specs.Promise.{sinkLine}
-use Rattle.balanced.specs.Witness.{lossySettings, smallSettings, smallTree, soonFrom, lossyRow}
-use Rattle.balanced.proofs.Witnesses.{small-within, small-readings}
-use Rattle.answers.proofs.Computing.{answered}
-use Rattle.report.specs.Text.{header, numbers, lineText, text}
+use Rattle.row_model.specs.declared.Kind.the-variants.{EndNode, Sink}
+use Rattle.row_model.specs.declared.Line.{Line}
+use Rattle.row_model.specs.Lines.{line}
+use Rattle.row_model.specs.Tree.{isChild, ancestor, sinkBelow, towards, lineOf, networkOf, Windows}
+use Rattle.row_model.specs.Promise.{sinkLine}
+use Rattle.row_model.specs.Witness.{lossySettings, smallSettings, smallTree, soonFrom, lossyRow}
+use Rattle.row_model.proofs.Witnesses.{small-within, small-readings}
+use Rattle.row_answer_model.proofs.Computing.{answered}
+use Rattle.report_model.specs.Text.{header, numbers, lineText, text}
 use Rattle.calls_model.specs.Broken.{lossy, lossless, LosslessBreaks}
 
 -- the lines of that text

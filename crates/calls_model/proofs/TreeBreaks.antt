@@ -5,28 +5,28 @@ use Prim.Native.Nat.{ℕ, zero, suc, _+_, _≤_}
 use native.Mathlib.Omega.{arith}
 use lib.Dec.{lit<, lit≤}
 use lib.ListN.{length, take}
-use Rattle.decimal.specs.Ascii.{ascii}
-use Rattle.decimal.specs.Decimal.{digitsBy, decimal}
+use Rattle.decimal_model.specs.Ascii.{ascii}
+use Rattle.decimal_model.specs.Decimal.{digitsBy, decimal}
 use Rattle.lines.specs.Text.{joined, ended}
 use Rattle.network.specs.Counting.{All, each}
 use Rattle.network.specs.Model.{Network, Frame, queue}
 use Rattle.network.specs.Oracle.{run}
 use Rattle.network.specs.Examples.{first}
 use Rattle.network.proofs.Oracles.{every-choice-is-a-run}
-use Rattle.balanced.specs.declared.Kind.the-variants.{EndNode, Upward, Sink}
-use Rattle.balanced.specs.Lines.{letter}
-use Rattle.balanced.specs.Witness.{soonFrom}
-use Rattle.report.specs.Text.{numbers}
-use Rattle.report.specs.TreeText.{treeHeader, nodeText, treeText}
-use Rattle.tree.specs.declared.NodeLine.{NodeLine}
-use Rattle.tree.specs.Tree.{Tree}
-use Rattle.tree.specs.Promise.{noLine, route, longest, networkOf, Windows, Held, Keeps}
-use Rattle.tree.specs.Witness.{shortest, pair, fullReadings, lossy, shorter, twoHops, hopOffsets, lateReading}
-use Rattle.tree.proofs.Computing.{trees, runs, printed-line}
-use Rattle.tree.proofs.FullQueue.{filled, pair-readings}
-use Rattle.tree.proofs.TwoHops.{two-links}
-use Rattle.nodes.specs.Survey.{treeIn}
-use Rattle.nodes.proofs.Computing.{lists}
+use Rattle.row_model.specs.declared.Kind.the-variants.{EndNode, Upward, Sink}
+use Rattle.row_model.specs.Lines.{letter}
+use Rattle.row_model.specs.Witness.{soonFrom}
+use Rattle.report_model.specs.Text.{numbers}
+use Rattle.report_model.specs.TreeText.{treeHeader, nodeText, treeText}
+use Rattle.tree_model.specs.declared.NodeLine.{NodeLine}
+use Rattle.tree_model.specs.Tree.{Tree}
+use Rattle.tree_model.specs.Promise.{noLine, route, longest, networkOf, Windows, Held, Keeps}
+use Rattle.tree_model.specs.Witness.{shortest, pair, fullReadings, lossy, shorter, twoHops, hopOffsets, lateReading}
+use Rattle.tree_model.proofs.Computing.{trees, runs, printed-line}
+use Rattle.tree_model.proofs.FullQueue.{filled, pair-readings}
+use Rattle.tree_model.proofs.TwoHops.{two-links}
+use Rattle.tree_read_model.specs.Survey.{treeIn}
+use Rattle.tree_read_model.proofs.Computing.{lists}
 use Rattle.calls_model.proofs.LossBreaks.{third-frame, too-late}
 use Rattle.calls_model.specs.TreeBroken.{pairList, lowBuffer, hopList, lowRoute, lowRoutes, lossless, LoweredBreak}
 

@@ -7,16 +7,16 @@ use Rattle.lines.specs.Text.{fields}
 use Rattle.refusals.specs.Conditions.{firstBroken}
 use Rattle.refusals.specs.Outcome.{Outcome, Planned, Refused}
 use Rattle.refusals.proofs.Answering.{first-append}
-use Rattle.settings.specs.Columns.{twelve, table}
-use Rattle.row.specs.declared.Heading.the-variants.{Twelve, Thirteen}
-use Rattle.row.specs.Names.{nameLine}
-use Rattle.row.specs.Laws.{withZero}
-use Rattle.balanced.specs.declared.Line.{Line}
-use Rattle.balanced.specs.Lines.{lines}
-use Rattle.report.specs.Text.{text}
-use Rattle.answers.specs.Outcomes.{spelledSettings, rowConditions}
-use Rattle.row.proofs.WithoutLoss.{names-of-twelve, names-of-thirteen}
-use Rattle.answers.proofs.WithoutLoss as answers
+use Rattle.settings_model.specs.Columns.{twelve, table}
+use Rattle.row_read_model.specs.declared.Heading.the-variants.{Twelve, Thirteen}
+use Rattle.row_read_model.specs.Names.{nameLine}
+use Rattle.row_read_model.specs.Laws.{withZero}
+use Rattle.row_model.specs.declared.Line.{Line}
+use Rattle.row_model.specs.Lines.{lines}
+use Rattle.report_model.specs.Text.{text}
+use Rattle.row_answer_model.specs.Outcomes.{spelledSettings, rowConditions}
+use Rattle.row_read_model.proofs.WithoutLoss.{names-of-twelve, names-of-thirteen}
+use Rattle.row_answer_model.proofs.WithoutLoss as answers
 use Rattle.calls_model.specs.Calls.{told, filled, room, roomed, left, leaves}
 use Rattle.calls_model.specs.Entries.{planRow, checkRow}
 use Rattle.calls_model.specs.Reasons.{rowLine, explainRow}

@@ -2,10 +2,10 @@
 -- was made without. Assumes nothing: these are definitions and statements; proofs/Breaks and LossBreaks prove them.
 use Prim.Native.Nat.{ℕ}
 use mathlib.Core.List.{List}
-use Rattle.decimal.specs.Ascii.{ascii}
+use Rattle.decimal_model.specs.Ascii.{ascii}
 use Rattle.calls_model.specs.Promise.{Promised}
 
--- a row in whose run a queue is filled to BUFFER, 3 (`Filled` of balanced's specs/Witness)
+-- a row in whose run a queue is filled to BUFFER, 3 (`Filled` of row_model's specs/Witness)
 unfoldable pub row : List ℕ
 row = ascii "0 0 0 0 1 0 0 1 2 17 1 0"
 
@@ -18,7 +18,7 @@ LoweredBreaks = ¬ Promised row (record { number = 0; place = 0; length = 105 })
 
 -- ---- LOSS (document 02, E5)
 
--- a row whose exchanges last 160 symbols, with one failed try, where X is 70 (`Lossy` of balanced's specs/Witness)
+-- a row whose exchanges last 160 symbols, with one failed try, where X is 70 (`Lossy` of row_model's specs/Witness)
 unfoldable pub lossy : List ℕ
 lossy = ascii "0 0 0 0 1 0 0 1 2 5 1 1 1"
 

@@ -2,10 +2,10 @@
 -- definitions.
 use Prim.Native.Nat.{ℕ}
 use mathlib.Core.List.{List}
-use Rattle.row.specs.Names.{headingOf}
-use Rattle.balanced.specs.Lines.{lines}
-use Rattle.answers.specs.Outcomes.{spelledSettings, rowConditions, namedOutcome}
-use Rattle.report.specs.Text.{text}
+use Rattle.row_read_model.specs.Names.{headingOf}
+use Rattle.row_model.specs.Lines.{lines}
+use Rattle.row_answer_model.specs.Outcomes.{spelledSettings, rowConditions, namedOutcome}
+use Rattle.report_model.specs.Text.{text}
 use Rattle.calls_model.specs.declared.Answer.{Answer}
 use Rattle.calls_model.specs.Calls.{told, Left, leaves}
 

@@ -4,12 +4,12 @@ use mathlib.Core.List.{List, [], _++_}
 use Prim.Native.Nat.{ℕ}
 use lib.ListN.{replicate}
 use Prim.Native.String.{String}
-use Rattle.decimal.specs.Ascii.{ascii}
+use Rattle.decimal_model.specs.Ascii.{ascii}
 use Rattle.calls_model.specs.declared.Answer.{Answer}
 use Rattle.reason_model.specs.Reading.{readReason}
 use Rattle.calls_model.specs.Calls.{Left, left}
 use Rattle.calls_model.specs.Entries.{planRow, checkRow}
-use Rattle.tree.specs.Beside.{beside}
+use Rattle.tree_model.specs.Beside.{beside}
 use Rattle.calls_model.specs.Trees.{planTree, checkTree, explainTree}
 use Rattle.calls_model.specs.TreeBroken.{pairList}
 use Rattle.calls_model.specs.Reasons.{explainRow, explainRefusal, numbered, ReadAgain}

@@ -9,10 +9,10 @@ use Rattle.lines.specs.Text.{fields}
 use Rattle.refusals.specs.declared.Refusal.{Refusal}
 use Rattle.refusals.specs.Conditions.{Condition, firstBroken}
 use Rattle.refusals.specs.Outcome.{Planned, Refused}
-use Rattle.settings.specs.declared.Settings.{Settings}
-use Rattle.settings.specs.Columns.{twelve, table}
-use Rattle.row.specs.Names.{nameLine}
-use Rattle.row.specs.Laws.{withZero}
+use Rattle.settings_model.specs.declared.Settings.{Settings}
+use Rattle.settings_model.specs.Columns.{twelve, table}
+use Rattle.row_read_model.specs.Names.{nameLine}
+use Rattle.row_read_model.specs.Laws.{withZero}
 use Rattle.superframe_model.specs.ExchangeTable.{entryFor}
 use Rattle.calls_model.specs.Exchanges.{exchangeAsked}
 use Rattle.calls_model.specs.Calls.{told, leaves, IsPlanned, StandsIn}

@@ -1,15 +1,15 @@
 -- Demand 3 of the text in the lent buffer. Assumes nothing: these are definitions.
 use Prim.Native.Nat.{ℕ}
 use mathlib.Core.List.{List}
-use Rattle.settings.specs.declared.Settings.{Settings}
-use Rattle.balanced.specs.declared.Line.{Line}
-use Rattle.balanced.specs.Promise as row-promise
-use Rattle.answers.specs.Outcomes.{spelledSettings}
-use Rattle.report.specs.Text.{text}
-use Rattle.report.specs.TreeText.{treeText}
-use Rattle.tree.specs.declared.NodeLine.{NodeLine}
-use Rattle.tree.specs.Promise as tree-promise
-use Rattle.nodes.specs.Survey.{treeIn}
+use Rattle.settings_model.specs.declared.Settings.{Settings}
+use Rattle.row_model.specs.declared.Line.{Line}
+use Rattle.row_model.specs.Promise as row-promise
+use Rattle.row_answer_model.specs.Outcomes.{spelledSettings}
+use Rattle.report_model.specs.Text.{text}
+use Rattle.report_model.specs.TreeText.{treeText}
+use Rattle.tree_model.specs.declared.NodeLine.{NodeLine}
+use Rattle.tree_model.specs.Promise as tree-promise
+use Rattle.tree_read_model.specs.Survey.{treeIn}
 use Rattle.calls_model.specs.declared.Answer.{Answer}
 use Rattle.calls_model.specs.Calls.{IsPlanned, StandsIn}
 

@@ -9,8 +9,8 @@ use Rattle.refusals.specs.declared.Refusal.{Refusal}
 use Rattle.refusals.specs.declared.Refusal.the-variants.{Names, LentTooShort, InputTooLong}
 use Rattle.refusals.specs.Refusals.{numberOf, placeOf}
 use Rattle.plan_model.specs.Plans.{answer}
-use Rattle.report.specs.Text.{text}
-use Rattle.answers.specs.Outcomes.{namedOutcome}
+use Rattle.report_model.specs.Text.{text}
+use Rattle.row_answer_model.specs.Outcomes.{namedOutcome}
 use Rattle.reason_model.specs.declared.Reading.{Reading}
 use Rattle.reason_model.specs.declared.Reading.the-variants.{Reason, NoReason}
 use Rattle.reason_model.specs.Reasons.{reason, spoken}

@@ -4,11 +4,11 @@
 use Prim.Native.Nat.{ℕ}
 use mathlib.Core.List.{List}
 use lib.ListN.{length}
-use Rattle.decimal.specs.Ascii.{ascii}
-use Rattle.tree.specs.Beside.{beside}
+use Rattle.decimal_model.specs.Ascii.{ascii}
+use Rattle.tree_model.specs.Beside.{beside}
 use Rattle.calls_model.specs.Promise.{PromisedTree}
 
--- ---- a list in whose run a queue is filled to BUFFER, 3 (`Filled` of tree's specs/Witness)
+-- ---- a list in whose run a queue is filled to BUFFER, 3 (`Filled` of tree_model's specs/Witness)
 
 unfoldable pub pairList : List ℕ
 pairList = ascii "NODE PARENT BURST RATE\n1 0 0 0\n2 1 1 2\n"

@@ -2,14 +2,14 @@
 -- Assumes nothing: these are definitions.
 use Prim.Native.Nat.{ℕ}
 use mathlib.Core.List.{List, _++_}
-use Rattle.decimal.specs.Ascii.{ascii}
+use Rattle.decimal_model.specs.Ascii.{ascii}
 use Rattle.refusals.specs.declared.Verdict.{Verdict}
 use Rattle.refusals.specs.declared.Verdict.the-variants.{Kept, Broken}
-use Rattle.settings.specs.declared.Settings.{Settings}
-use Rattle.tree.specs.Lines.{lines}
-use Rattle.tree.specs.Checks.{conditions}
-use Rattle.nodes.specs.Survey.{treeIn, surveyed, outcomeIn}
-use Rattle.report.specs.TreeText.{treeText}
+use Rattle.settings_model.specs.declared.Settings.{Settings}
+use Rattle.tree_model.specs.Lines.{lines}
+use Rattle.tree_model.specs.Checks.{conditions}
+use Rattle.tree_read_model.specs.Survey.{treeIn, surveyed, outcomeIn}
+use Rattle.report_model.specs.TreeText.{treeText}
 use Rattle.reason_model.specs.Reasons.{reason}
 use Rattle.plan_model.specs.Plans.{answer}
 use Rattle.calls_model.specs.declared.Answer.{Answer}

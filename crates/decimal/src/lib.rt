@@ -1,20 +1,15 @@
 // Decimal numbers in ASCII, read and written.
 //
-// No public function has a `requires`: each answers every argument, as equations with definitions of specs/ say.
+// No public function has a `requires`: each answers every argument, as equations with definitions of decimal_model say.
 ghost use mathlib.Core.Path.{_≡_};
 ghost use Prim.Native.Nat.{_+_, _≤_, _<_};
 ghost use lib.ListN.{length, set};
 ghost use lib.Seq.{sets};
-ghost use Rattle.decimal.specs.Number.{digit, shaped, numberIn};
-ghost use Rattle.decimal.specs.Decimal.{decimal};
-ghost use Rattle.decimal.specs.Inner.{four};
+ghost use Rattle.decimal_model.specs.Number.{digit, shaped, numberIn};
+ghost use Rattle.decimal_model.specs.Decimal.{decimal};
+ghost use Rattle.decimal_model.specs.Inner.{four};
 use buffer::put_byte;
-
-// What bytes spell: a number, or none that document 01 reads ('Rows of settings').
-pub enum Number {
-    Value(u64),
-    Unreadable,
-}
+use decimal_model::Number;
 
 // The number that all of s spells: 1 to 4 digits, no leading zero except 0 itself, and no other byte.
 pub fn read_number(s: &[u8]) -> Number

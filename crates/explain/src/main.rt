@@ -1,11 +1,11 @@
 // The program: rows of settings from standard input, and for each one line of English to standard output, that it is planned or why it
-// is refused (document 02, E1). What is printed is decided in `batch`; here it is read and written alone.
-use batch::Style;
-use batch::begin;
-use batch::next_piece;
+// is refused (document 02, E1). What is printed is decided in `row_program`; here it is read and written alone.
 use libc::STDIN_FILENO;
 use libc::STDOUT_FILENO;
 use report::LONGEST;
+use row_program::begin;
+use row_program::next_piece;
+use row_program_model::Style;
 
 fn main() {
     // One byte more than an input may have: a longer one shows.

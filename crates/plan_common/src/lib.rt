@@ -8,7 +8,7 @@ use links::Timing;
 use plan_model::Plan;
 use refusals::Refusal;
 use refusals::Verdict;
-use settings::Settings;
+use settings_model::Settings;
 
 // BI, S and the exchange with LOSS of any settings.
 pub fn timing_of(s: Settings) -> Timing

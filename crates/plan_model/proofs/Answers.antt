@@ -8,20 +8,20 @@ use Rattle.refusals.specs.declared.Verdict.the-variants.{Kept, Broken}
 use Rattle.refusals.specs.Conditions.{Unbroken}
 use Rattle.refusals.proofs.Answering.{verdict, answer-broken, answer-kept, first-part-answers, second-part-answers}
 use Rattle.refusals.proofs.Unbroken.{kept-unbroken, unbroken-left, unbroken-right}
-use Rattle.settings.specs.declared.Settings.{Settings}
-use Rattle.settings.specs.Checks.{checks}
-use Rattle.settings.specs.Laws.{Checked}
-use Rattle.settings.proofs.LawsHold.{unbroken-where-checked}
-use Rattle.balanced.specs.Checks.{reservations, routers, superframes, routersFit, usedFrom, conditions}
-use Rattle.balanced.specs.Lines.{lines}
+use Rattle.settings_model.specs.declared.Settings.{Settings}
+use Rattle.settings_model.specs.Checks.{checks}
+use Rattle.settings_model.specs.Laws.{Checked}
+use Rattle.settings_model.proofs.LawsHold.{unbroken-where-checked}
+use Rattle.row_model.specs.Checks.{reservations, routers, superframes, routersFit, usedFrom, conditions}
+use Rattle.row_model.specs.Lines.{lines}
 use Rattle.refusals.specs.Outcome.{Planned, Refused}
-use Rattle.balanced.specs.Outcome.{outcomeOf}
-use Rattle.balanced.specs.Promise.{Keeps}
-use Rattle.balanced.specs.Bounds.{Sound}
-use Rattle.balanced.proofs.Conditions.{few-routers}
-use Rattle.balanced.proofs.LawsHold.{planned-exactly, every-plan-keeps}
+use Rattle.row_model.specs.Outcome.{outcomeOf}
+use Rattle.row_model.specs.Promise.{Keeps}
+use Rattle.row_model.specs.Bounds.{Sound}
+use Rattle.row_model.proofs.Conditions.{few-routers}
+use Rattle.row_model.proofs.LawsHold.{planned-exactly, every-plan-keeps}
 use Rattle.plan_model.specs.declared.Plan.{Plan}
-use Rattle.report.specs.Text.{text}
+use Rattle.report_model.specs.Text.{text}
 use Rattle.plan_model.specs.Plans.{answer}
 use Rattle.plan_model.proofs.Answered.{answer-planned}
 use Rattle.plan_model.specs.Inner.{checksBeforeSlots}

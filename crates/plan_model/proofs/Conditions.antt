@@ -15,10 +15,10 @@ use Rattle.refusals.specs.declared.Verdict.the-variants.{Kept, Broken}
 use Rattle.refusals.specs.Conditions.{condition, firstBroken}
 use Rattle.refusals.proofs.Answering.{verdict, first-part-answers, second-part-answers}
 use Rattle.superframe_model.proofs.OrderLaws.{shifted}
-use Rattle.settings.specs.declared.Settings.{Settings}
-use Rattle.balanced.specs.Times.{reservableAt}
-use Rattle.balanced.specs.Checks.{routers, superframes, routersFit, usedOffPath, usedOnPath, hasOffPath, hasOnPath, offPathAt, onPathAt, usedAt, usedFrom}
-use Rattle.balanced.proofs.LoadBounds.{full, full-one, full-more}
+use Rattle.settings_model.specs.declared.Settings.{Settings}
+use Rattle.row_model.specs.Times.{reservableAt}
+use Rattle.row_model.specs.Checks.{routers, superframes, routersFit, usedOffPath, usedOnPath, hasOffPath, hasOnPath, offPathAt, onPathAt, usedAt, usedFrom}
+use Rattle.row_model.proofs.LoadBounds.{full, full-one, full-more}
 
 -- one condition that a number passes a limit, broken or kept
 pub over-limit : (l n : ℕ) (r : Refusal) → l < n → Broken r ≡ verdict (condition (ltb l n) r ∷ [])

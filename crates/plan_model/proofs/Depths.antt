@@ -7,14 +7,14 @@ use Rattle.links.specs.declared.Load.{Load}
 use Rattle.links.specs.declared.Timing.{Timing}
 use Rattle.links.specs.Link.{load, plus, times, loadUpTo64, after}
 use Rattle.links.specs.Answers.{Timed}
-use Rattle.settings.specs.declared.Settings.{Settings}
+use Rattle.settings_model.specs.declared.Settings.{Settings}
 use Rattle.plan_model.specs.declared.Link.{Link}
-use Rattle.balanced.specs.Times.{timingOf}
-use Rattle.balanced.specs.Loads.{sensor, left, near, upward, downward}
-use Rattle.balanced.specs.Bounds.{Sound, Bounded}
+use Rattle.row_model.specs.Times.{timingOf}
+use Rattle.row_model.specs.Loads.{sensor, left, near, upward, downward}
+use Rattle.row_model.specs.Bounds.{Sound, Bounded}
 use Rattle.plan_model.specs.Inner.{coming, joined, leftBy, linkOf, linkUp, linkDown, noLoad}
-use Rattle.balanced.proofs.LoadLaws.{timed, upward-last, upward-step, downward-first, downward-step}
-use Rattle.balanced.proofs.LoadBounds.{sensor-bounded, near-bounded, upward-bounded, upward-left-bounded, downward-bounded, downward-left-bounded}
+use Rattle.row_model.proofs.LoadLaws.{timed, upward-last, upward-step, downward-first, downward-step}
+use Rattle.row_model.proofs.LoadBounds.{sensor-bounded, near-bounded, upward-bounded, upward-left-bounded, downward-bounded, downward-left-bounded}
 use Rattle.plan_model.proofs.Made.{fits, plus-left, plus-right}
 
 -- ---- sums as they are made

@@ -9,15 +9,15 @@ use Rattle.measure.specs.Measures.{symbols, slots, frames, wholeFrames}
 use Rattle.links.specs.declared.Load.{Load}
 use Rattle.links.specs.declared.Figures.{Figures}
 use Rattle.links.specs.Link.{load, plus, loadUpTo64}
-use Rattle.settings.specs.declared.Settings.{Settings}
-use Rattle.balanced.specs.declared.Kind.the-variants.{EndNode, Sink}
-use Rattle.balanced.specs.declared.Line.{Line}
-use Rattle.balanced.specs.Times.{timingOf}
-use Rattle.balanced.specs.Loads.{upward, sinkAt, atSink}
-use Rattle.balanced.specs.Lines.{line, endLink, totalDelay, sinkFigures, endLines}
-use Rattle.balanced.specs.Bounds.{Sound, Bounded}
-use Rattle.balanced.proofs.LoadLaws.{sink-first, sink-step}
-use Rattle.balanced.proofs.LoadBounds.{upward-bounded, sink-below-bounded}
+use Rattle.settings_model.specs.declared.Settings.{Settings}
+use Rattle.row_model.specs.declared.Kind.the-variants.{EndNode, Sink}
+use Rattle.row_model.specs.declared.Line.{Line}
+use Rattle.row_model.specs.Times.{timingOf}
+use Rattle.row_model.specs.Loads.{upward, sinkAt, atSink}
+use Rattle.row_model.specs.Lines.{line, endLink, totalDelay, sinkFigures, endLines}
+use Rattle.row_model.specs.Bounds.{Sound, Bounded}
+use Rattle.row_model.proofs.LoadLaws.{sink-first, sink-step}
+use Rattle.row_model.proofs.LoadBounds.{upward-bounded, sink-below-bounded}
 use Rattle.plan_model.specs.declared.Link.{Link}
 use Rattle.plan_model.specs.Inner.{coming, noLoad, linkOf, linkUp}
 use Rattle.plan_model.specs.Pages.{Page, pushed, filled}

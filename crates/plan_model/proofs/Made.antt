@@ -9,11 +9,11 @@ use Rattle.links.specs.declared.Load.{Load}
 use Rattle.links.specs.declared.Reservation.{Reservation}
 use Rattle.links.specs.Link.{load, plus, times, loadUpTo64, afterLink, after, reservationOf}
 use Rattle.links.proofs.Making.{load-fits}
-use Rattle.settings.specs.declared.Settings.{Settings}
-use Rattle.balanced.specs.Times.{timingOf}
-use Rattle.balanced.specs.Loads.{sensor, left, near}
-use Rattle.balanced.specs.Bounds.{Sound, Bounded}
-use Rattle.balanced.proofs.LoadBounds.{sensor-bounded, sensor-left-bounded, near-bounded}
+use Rattle.settings_model.specs.declared.Settings.{Settings}
+use Rattle.row_model.specs.Times.{timingOf}
+use Rattle.row_model.specs.Loads.{sensor, left, near}
+use Rattle.row_model.specs.Bounds.{Sound, Bounded}
+use Rattle.row_model.proofs.LoadBounds.{sensor-bounded, sensor-left-bounded, near-bounded}
 
 -- a bounded load is answered as it is
 pub fits : (a : Load) → Bounded a → loadUpTo64 a ≡ a

@@ -14,20 +14,20 @@ use Rattle.links.specs.Link.{after, reservationOf, delay, figuresBy, figuresOf}
 use Rattle.links.specs.Answers.{figuresAnswered, Moderate}
 use Rattle.links.proofs.Making.{figures-fit}
 use Rattle.links.proofs.LinkLaws.{delay-bound}
-use Rattle.settings.specs.declared.Settings.{Settings}
-use Rattle.balanced.specs.declared.Kind.the-variants.{Upward, Downward}
-use Rattle.balanced.specs.declared.Line.{Line}
-use Rattle.balanced.specs.Times.{timingOf}
-use Rattle.balanced.specs.Loads.{sensor, left, upward, downward}
-use Rattle.balanced.specs.Lines.{line, linkFor, endLink, upLink, downLink, upLines}
-use Rattle.balanced.specs.Bounds.{Sound, Bounded}
-use Rattle.balanced.proofs.LoadLaws.{timed, interval-low, exchange-low}
-use Rattle.balanced.proofs.LoadBounds.{sensor-bounded, sensor-left-bounded, upward-bounded, upward-left-bounded, downward-bounded, downward-left-bounded}
-use Rattle.balanced.proofs.Recurrences.{sensor-some, upward-some, downward-some}
+use Rattle.settings_model.specs.declared.Settings.{Settings}
+use Rattle.row_model.specs.declared.Kind.the-variants.{Upward, Downward}
+use Rattle.row_model.specs.declared.Line.{Line}
+use Rattle.row_model.specs.Times.{timingOf}
+use Rattle.row_model.specs.Loads.{sensor, left, upward, downward}
+use Rattle.row_model.specs.Lines.{line, linkFor, endLink, upLink, downLink, upLines}
+use Rattle.row_model.specs.Bounds.{Sound, Bounded}
+use Rattle.row_model.proofs.LoadLaws.{timed, interval-low, exchange-low}
+use Rattle.row_model.proofs.LoadBounds.{sensor-bounded, sensor-left-bounded, upward-bounded, upward-left-bounded, downward-bounded, downward-left-bounded}
+use Rattle.row_model.proofs.Recurrences.{sensor-some, upward-some, downward-some}
 use Rattle.plan_model.specs.declared.Link.{Link}
 use Rattle.plan_model.specs.Inner.{linkOf, linkUp, linkDown}
 use Rattle.plan_model.specs.Pages.{Page, pushed, filled, downLinesFrom}
-use Rattle.report.specs.Text.{lineText}
+use Rattle.report_model.specs.Text.{lineText}
 
 -- ---- one line more
 

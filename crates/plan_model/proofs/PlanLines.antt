@@ -12,16 +12,16 @@ use Rattle.measure.proofs.Limits.{up-to-fits}
 use Rattle.links.specs.declared.Load.{Load}
 use Rattle.links.proofs.LinkLaws.{delay-bound}
 use Rattle.network.specs.Counting.{total, join}
-use Rattle.settings.specs.declared.Settings.{Settings}
-use Rattle.balanced.specs.declared.Kind.the-variants.{EndNode, Downward, Sink}
-use Rattle.balanced.specs.declared.Line.{Line}
-use Rattle.balanced.specs.Times.{timingOf}
-use Rattle.balanced.specs.Loads.{sensor, upward, downward}
-use Rattle.balanced.specs.Lines.{line, linkFor, endLink, upLink, downLink, totalDelay, sinkFigures, endLines, upLines, downLines, lines}
-use Rattle.balanced.specs.Bounds.{Sound, Bounded}
-use Rattle.balanced.proofs.LoadLaws.{timed, interval-low, exchange-low}
-use Rattle.balanced.proofs.LoadBounds.{sensor-bounded, upward-bounded, downward-bounded}
-use Rattle.balanced.proofs.Recurrences.{sensor-some, upward-some, downward-some}
+use Rattle.settings_model.specs.declared.Settings.{Settings}
+use Rattle.row_model.specs.declared.Kind.the-variants.{EndNode, Downward, Sink}
+use Rattle.row_model.specs.declared.Line.{Line}
+use Rattle.row_model.specs.Times.{timingOf}
+use Rattle.row_model.specs.Loads.{sensor, upward, downward}
+use Rattle.row_model.specs.Lines.{line, linkFor, endLink, upLink, downLink, totalDelay, sinkFigures, endLines, upLines, downLines, lines}
+use Rattle.row_model.specs.Bounds.{Sound, Bounded}
+use Rattle.row_model.proofs.LoadLaws.{timed, interval-low, exchange-low}
+use Rattle.row_model.proofs.LoadBounds.{sensor-bounded, upward-bounded, downward-bounded}
+use Rattle.row_model.proofs.Recurrences.{sensor-some, upward-some, downward-some}
 use Rattle.plan_model.specs.Pages.{Page, pushed, filled, downLinesFrom}
 use Rattle.plan_model.proofs.Whole.{delays, delays-append, pageOf, filled-append, filled-text, pushed-text}
 

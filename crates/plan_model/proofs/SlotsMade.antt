@@ -11,13 +11,13 @@ use Rattle.measure.specs.Measures.{slots, upTo64}
 use Rattle.links.specs.declared.Load.{Load}
 use Rattle.links.specs.Link.{slotsOf, reservationOf}
 use Rattle.links.proofs.LinkLaws.{slots-long}
-use Rattle.settings.specs.declared.Settings.{Settings}
-use Rattle.balanced.specs.Times.{timingOf, routersBelow}
-use Rattle.balanced.specs.Loads.{sensor, upward, downward}
-use Rattle.balanced.specs.Checks.{slotsNeeded, usedBelow, usedOffPath, usedOnPath}
-use Rattle.balanced.specs.Bounds.{Sound}
-use Rattle.balanced.proofs.LoadLaws.{timed}
-use Rattle.balanced.proofs.LoadBounds.{sensor-bounded, upward-bounded, downward-bounded}
+use Rattle.settings_model.specs.declared.Settings.{Settings}
+use Rattle.row_model.specs.Times.{timingOf, routersBelow}
+use Rattle.row_model.specs.Loads.{sensor, upward, downward}
+use Rattle.row_model.specs.Checks.{slotsNeeded, usedBelow, usedOffPath, usedOnPath}
+use Rattle.row_model.specs.Bounds.{Sound}
+use Rattle.row_model.proofs.LoadLaws.{timed}
+use Rattle.row_model.proofs.LoadBounds.{sensor-bounded, upward-bounded, downward-bounded}
 use Rattle.plan_model.specs.declared.Link.{Link}
 use Rattle.plan_model.specs.Inner.{linkOf, linkUp, linkDown}
 

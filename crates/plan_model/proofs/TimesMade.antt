@@ -10,11 +10,11 @@ use Rattle.superframe_model.specs.Orders.{beaconInterval, slot, reservable}
 use Rattle.superframe_model.specs.Loss.{lossyExchangeFor}
 use Rattle.superframe_model.proofs.LossLaws.{lossy-for-octets}
 use Rattle.links.specs.declared.Timing.{Timing}
-use Rattle.settings.specs.declared.Settings.{Settings}
-use Rattle.settings.specs.Laws.{Checked}
+use Rattle.settings_model.specs.declared.Settings.{Settings}
+use Rattle.settings_model.specs.Laws.{Checked}
 use Rattle.measure.specs.Measures.{upTo64}
 use Rattle.measure.proofs.Limits.{up-to-fits}
-use Rattle.balanced.specs.Times.{timingOf, routersBelow, reservationsAt, reservableAt}
+use Rattle.row_model.specs.Times.{timingOf, routersBelow, reservationsAt, reservableAt}
 use Rattle.plan_model.specs.Times.{timingAnswered}
 
 -- an order in its range is taken as it is

@@ -6,10 +6,10 @@ use native.Mathlib.Omega.{arith}
 use lib.ListN.{length, length-append}
 use lib.Seq.{sets, append-snoc}
 use Rattle.measure.specs.Measures.{upTo64, symbols}
-use Rattle.balanced.specs.declared.Line.{Line}
+use Rattle.row_model.specs.declared.Line.{Line}
 use Rattle.buffer.proofs.Putting.{sets-sets}
-use Rattle.report.specs.Text.{header, lineText, text}
-use Rattle.report.proofs.LineText.{below, below-snoc, text-below, text-none, header-length}
+use Rattle.report_model.specs.Text.{header, lineText, text}
+use Rattle.report_model.proofs.LineText.{below, below-snoc, text-below, text-none, header-length}
 use Rattle.plan_model.specs.Pages.{Page, pushed, filled}
 
 -- the sum of the lines' delays

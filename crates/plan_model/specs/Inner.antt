@@ -11,14 +11,14 @@ use Rattle.links.specs.declared.Timing.{Timing}
 use Rattle.links.specs.Link.{load, plus, times, afterLink, reservationOf}
 use Rattle.refusals.specs.declared.Refusal.{Refusal}
 use Rattle.refusals.specs.Conditions.{Condition}
-use Rattle.settings.specs.declared.Settings.{Settings}
-use Rattle.settings.specs.Checks.{checks}
+use Rattle.settings_model.specs.declared.Settings.{Settings}
+use Rattle.settings_model.specs.Checks.{checks}
 use Rattle.plan_model.specs.declared.Link.{Link}
 use Rattle.plan_model.specs.declared.Links.{Links}
-use Rattle.balanced.specs.Times.{timingOf}
-use Rattle.balanced.specs.Loads.{left, upward, downward, sensor, atSink}
-use Rattle.balanced.specs.Bounds.{Sound}
-use Rattle.balanced.specs.Checks.{reservations, routersFit}
+use Rattle.row_model.specs.Times.{timingOf}
+use Rattle.row_model.specs.Loads.{left, upward, downward, sensor, atSink}
+use Rattle.row_model.specs.Bounds.{Sound}
+use Rattle.row_model.specs.Checks.{reservations, routersFit}
 
 -- ---- links
 

@@ -6,11 +6,11 @@ use lib.ListN.{length}
 use lib.Seq.{sets}
 use Rattle.measure.specs.declared.Symbols.{Symbols}
 use Rattle.measure.specs.Measures.{symbols, upTo64}
-use Rattle.settings.specs.declared.Settings.{Settings}
-use Rattle.balanced.specs.declared.Kind.the-variants.{Downward}
-use Rattle.balanced.specs.declared.Line.{Line}
-use Rattle.balanced.specs.Lines.{line, downLink}
-use Rattle.report.specs.Text.{lineText}
+use Rattle.settings_model.specs.declared.Settings.{Settings}
+use Rattle.row_model.specs.declared.Kind.the-variants.{Downward}
+use Rattle.row_model.specs.declared.Line.{Line}
+use Rattle.row_model.specs.Lines.{line, downLink}
+use Rattle.report_model.specs.Text.{lineText}
 use Rattle.plan_model.specs.declared.Written.{Written}
 
 -- lent memory with a text at its front: where the text ends, the sum of its lines' delays, and all bytes

@@ -5,7 +5,7 @@ use lib.ListN.{length}
 use Rattle.refusals.specs.declared.Refusal.{Refusal}
 use Rattle.refusals.specs.declared.Verdict.the-variants.{Kept, Broken}
 use Rattle.refusals.specs.Outcome.{Outcome, Planned, Refused}
-use Rattle.report.specs.Text.{refusalText}
+use Rattle.report_model.specs.Text.{refusalText}
 use Rattle.plan_model.specs.declared.Plan.{Plan}
 
 -- planned with this text, or refused

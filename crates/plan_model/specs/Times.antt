@@ -6,7 +6,7 @@ use Rattle.measure.specs.Measures.{upTo64}
 use Rattle.superframe_model.specs.Orders.{beaconInterval, slot}
 use Rattle.superframe_model.specs.Loss.{lossyExchangeFor}
 use Rattle.links.specs.declared.Timing.{Timing}
-use Rattle.settings.specs.declared.Settings.{Settings}
+use Rattle.settings_model.specs.declared.Settings.{Settings}
 
 -- an order above 14 counts as 14, a LOSS above 7 as 7, and octets outside their range as the longest frame
 unfoldable pub timingAnswered : Settings → Timing

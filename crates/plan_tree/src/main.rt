@@ -1,12 +1,12 @@
 // The program: `plan_tree BO SO HEAD DATA ACK SINK [LOSS]`, a node list from standard input, its plan or a refusal to standard output
-// (document 02, E3 and E5). What is printed is decided in `printout`; here it is read and written alone.
-use decimal::Number;
+// (document 02, E3 and E5). What is printed is decided in `tree_program`; here it is read and written alone.
 use decimal::read_number;
+use decimal_model::Number;
 use libc::STDIN_FILENO;
 use libc::STDOUT_FILENO;
-use printout::Arguments;
-use printout::put_tree_output;
 use report::LONGEST_TREE;
+use tree_program::put_tree_output;
+use tree_program_model::Arguments;
 
 fn main() {
     // One byte more than an input may have: a longer one shows.

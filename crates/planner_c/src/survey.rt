@@ -1,7 +1,7 @@
 // The entries for C that plan surveyed trees (document 02, E3 and E5): a node list as bytes, and beside it numbers.
 ghost use mathlib.Core.Path.{_≡_};
 ghost use Prim.Native.Nat.{_≤_};
-ghost use Rattle.tree.specs.Beside as definition;
+ghost use Rattle.tree_model.specs.Beside as definition;
 ghost use Rattle.calls_model.specs.Calls.{left};
 ghost use Rattle.calls_model.specs.Reasons.{ReadAgain};
 ghost use Rattle.calls_model.specs.Trees.{planTree, checkTree, explainTree};

@@ -8,14 +8,14 @@ use native.Mathlib.Decide.{decLe}
 use lib.Dec.{leb, eqb}
 use lib.ListN.{length, getD, drop}
 use borrow.Author.Tests.{leb-true, le-leb, lt-leb, eqb-true, not-true}
-use Rattle.decimal.specs.Ascii.{ascii}
-use Rattle.decimal.specs.Number.{digits}
-use Rattle.decimal.specs.Decimal.{decimal}
-use Rattle.decimal.proofs.Writing.{written-in-decimal, at-most-twenty}
+use Rattle.decimal_model.specs.Ascii.{ascii}
+use Rattle.decimal_model.specs.Number.{digits}
+use Rattle.decimal_model.specs.Decimal.{decimal}
+use Rattle.decimal_model.proofs.Writing.{written-in-decimal, at-most-twenty}
 use Rattle.lines.specs.Text.{same}
 use Rattle.lines.proofs.Sameness.{same-equal}
-use Rattle.settings.specs.Columns.{Column, column, twelve, table, columnAt}
-use Rattle.settings.proofs.Ranging.{table-step}
+use Rattle.settings_model.specs.Columns.{Column, column, twelve, table, columnAt}
+use Rattle.settings_model.proofs.Ranging.{table-step}
 use Rattle.reason_model.specs.declared.Match.{Match}
 use Rattle.reason_model.specs.declared.Match.the-variants.{At, Nowhere}
 use Rattle.reason_model.specs.Reasons.{named, columnName}

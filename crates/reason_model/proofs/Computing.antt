@@ -1,10 +1,10 @@
 -- To unfold `worded` is to unfold all that a line is computed with, and `taken-in` all that number and place of a line are. Assumes nothing.
-use Rattle.decimal.specs.Ascii.{ascii}
-use Rattle.decimal.specs.Number.{digits, zeroLed, spelledAfter}
-use Rattle.decimal.specs.Decimal.{digitsBy, decimal}
+use Rattle.decimal_model.specs.Ascii.{ascii}
+use Rattle.decimal_model.specs.Number.{digits, zeroLed, spelledAfter}
+use Rattle.decimal_model.specs.Decimal.{digitsBy, decimal}
 use Rattle.lines.specs.Text.{same}
 use Rattle.refusals.specs.Refusals.{conflictPlace, treeNumber, treePlace, numberOf, placeOf}
-use Rattle.settings.specs.Columns.{twelve, table, columnAt}
+use Rattle.settings_model.specs.Columns.{twelve, table, columnAt}
 use Rattle.reason_model.specs.Reasons.{named, columnName, ruleOf, treePhrase, phraseOf, valuesAtOdds, treeValues, valuesOf, partOf, partText, taken, filled, reason, spoken}
 use Rattle.reason_model.specs.Reading.{wordByte, wordLength, numeral, placeIn, columnFrom, unnamed, columnIn, extent, meant, matched, sorts, readAs, readFrom, readReason}
 

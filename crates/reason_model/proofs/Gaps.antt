@@ -6,7 +6,7 @@ use Prim.Native.Nat.{ℕ, _+_}
 use native.Mathlib.Omega.{arith}
 use lib.ListN.{length}
 use lib.Seq.{take-append-seam, drop-append-seam}
-use Rattle.decimal.specs.Decimal.{decimal}
+use Rattle.decimal_model.specs.Decimal.{decimal}
 use Rattle.reason_model.specs.declared.Match.the-variants.{At, Nowhere}
 use Rattle.reason_model.specs.Reasons.{columnName, Part, Byte, Name, Place, Value, partText, filled}
 use Rattle.reason_model.specs.Reading.{wordByte, extent, meant, matched}

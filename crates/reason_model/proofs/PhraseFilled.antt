@@ -6,7 +6,7 @@ use Prim.Native.Nat.{ℕ, _+_}
 use lib.ListN.{getD, take, drop, take-append-drop}
 use Rattle.lines.specs.Text.{same}
 use Rattle.lines.proofs.Sameness.{same-equal}
-use Rattle.decimal.specs.Number.{spelled}
+use Rattle.decimal_model.specs.Number.{spelled}
 use Rattle.reason_model.specs.declared.Match.{Match}
 use Rattle.reason_model.specs.declared.Match.the-variants.{At, Nowhere}
 use Rattle.reason_model.specs.Reasons.{Part, Byte, Name, Place, Value, partText, taken, filled}

@@ -8,9 +8,9 @@ use lib.Dec.{leb}
 use lib.ListN.{length, length-append, getD, drop}
 use lib.Seq.{getD-drop}
 use borrow.Author.Tests.{leb-true, le-leb}
-use Rattle.decimal.specs.Number.{digit}
-use Rattle.decimal.specs.Decimal.{decimal}
-use Rattle.decimal.proofs.Writing.{at-most-twenty}
+use Rattle.decimal_model.specs.Number.{digit}
+use Rattle.decimal_model.specs.Decimal.{decimal}
+use Rattle.decimal_model.proofs.Writing.{at-most-twenty}
 use Rattle.reason_model.specs.Reasons.{columnName, Part, Byte, Name, Place, Value, partText, taken, filled}
 use Rattle.reason_model.specs.Reading.{wordByte}
 use Rattle.reason_model.specs.Laws.{printable}

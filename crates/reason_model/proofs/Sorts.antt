@@ -9,7 +9,7 @@ use native.Mathlib.Numerals.{add-one}
 use lib.ListN.{length, getD, take, drop, drop-of-length-le, List·getD-map}
 use lib.Seq.{drop-cons}
 use borrow.Author.Tests.{ltb-true, leb-true}
-use Rattle.decimal.specs.Ascii.{ascii}
+use Rattle.decimal_model.specs.Ascii.{ascii}
 use Rattle.refusals.specs.declared.Refusal.{Refusal}
 use Rattle.refusals.specs.declared.Refusal.the-variants.{Names, Unreadable, TextAfter, OutOfRange, AtOdds, Reservations, Superframes, SlotsUsed, LentTooShort, InputTooLong, InTree}
 use Rattle.refusals.specs.declared.TreeRefusal.{TreeRefusal}
@@ -17,7 +17,7 @@ use Rattle.refusals.specs.declared.TreeRefusal.the-variants.{NodeNames, NodeLin
 use Rattle.refusals.specs.declared.Conflict.{Conflict}
 use Rattle.refusals.specs.declared.Conflict.the-variants.{Orders, Routers, Sensors, SinkDepth, SinkBranches, FrameLength, Unacknowledged}
 use Rattle.refusals.specs.Refusals.{conflictPlace, treeNumber, treePlace, numberOf, placeOf}
-use Rattle.settings.specs.Columns.{twelve, table, columnAt}
+use Rattle.settings_model.specs.Columns.{twelve, table, columnAt}
 use Rattle.reason_model.specs.declared.Match.the-variants.{At, Nowhere}
 use Rattle.reason_model.specs.declared.Reading.the-variants.{Reason, NoReason}
 use Rattle.reason_model.specs.Reasons.{named, columnName, ruleOf, treePhrase, phraseOf, valuesAtOdds, treeValues, valuesOf, Part, partOf, partText, taken, filled, reason}

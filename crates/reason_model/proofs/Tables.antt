@@ -7,10 +7,10 @@ use native.Mathlib.Numerals.{add-one}
 use lib.Dec.{leb}
 use lib.ListN.{length, getD, take, drop, List·getD-map, List·getD-eq-default}
 use borrow.Author.Tests.{leb-true}
-use Rattle.decimal.specs.Ascii.{ascii}
+use Rattle.decimal_model.specs.Ascii.{ascii}
 use Rattle.refusals.specs.declared.Refusal.the-variants.{Names}
 use Rattle.refusals.specs.Refusals.{conflictPlace}
-use Rattle.settings.specs.Columns.{Column, column, twelve, table, columnAt}
+use Rattle.settings_model.specs.Columns.{Column, column, twelve, table, columnAt}
 use Rattle.reason_model.specs.Reasons.{named, columnName, ruleOf, treePhrase, phraseOf}
 use Rattle.reason_model.specs.Reading.{sorts}
 use Rattle.reason_model.specs.Inner.{sortAt, phraseAt, joined, phrases, names}

@@ -10,9 +10,9 @@ use lib.Dec.{leb, ltb, eqb}
 use lib.ListN.{length, getD, drop, drop-of-length-le}
 use lib.Seq.{drop-cons}
 use borrow.Author.Tests.{leb-true, le-leb, lt-ltb, le-ltb, not-true}
-use Rattle.decimal.specs.Number.{digit, digits, zeroLed, spelledAfter, spelled}
-use Rattle.decimal.specs.Decimal.{decimal}
-use Rattle.decimal.proofs.Writing.{written-in-decimal, one-writing}
+use Rattle.decimal_model.specs.Number.{digit, digits, zeroLed, spelledAfter, spelled}
+use Rattle.decimal_model.specs.Decimal.{decimal}
+use Rattle.decimal_model.proofs.Writing.{written-in-decimal, one-writing}
 use Rattle.lines.specs.Text.{same}
 use Rattle.reason_model.specs.declared.Match.{Match}
 use Rattle.reason_model.specs.declared.Match.the-variants.{At, Nowhere}

@@ -4,7 +4,7 @@ use mathlib.Core.Path.{_≡_}
 use mathlib.Core.List.{List, [], _∷_, map}
 use Prim.Native.Nat.{ℕ}
 use Prim.Native.String.{String}
-use Rattle.decimal.specs.Ascii.{ascii}
+use Rattle.decimal_model.specs.Ascii.{ascii}
 use Rattle.refusals.specs.declared.Refusal.{Refusal}
 use Rattle.refusals.specs.declared.Refusal.the-variants.{Names, Unreadable, TextAfter, OutOfRange, AtOdds, Reservations, Superframes, SlotsUsed, LentTooShort, InputTooLong, InTree}
 use Rattle.refusals.specs.declared.TreeRefusal.the-variants.{NodeNames, NodeLine, SinkNode, RouterReservations, RouterSlots}

@@ -3,8 +3,8 @@
 use Prim.Native.Nat.{ℕ, _+_}
 use mathlib.Core.List.{List, [], _∷_, _++_, map}
 use lib.ListN.{getD, length}
-use Rattle.decimal.specs.Ascii.{ascii}
-use Rattle.settings.specs.Columns.{Column, table}
+use Rattle.decimal_model.specs.Ascii.{ascii}
+use Rattle.settings_model.specs.Columns.{Column, table}
 use Rattle.refusals.specs.declared.Refusal.{Refusal}
 use Rattle.refusals.specs.declared.Refusal.the-variants.{Names, Unreadable, TextAfter, OutOfRange, AtOdds, Reservations, Superframes, SlotsUsed, LentTooShort, InputTooLong, InTree}
 use Rattle.refusals.specs.declared.TreeRefusal.{TreeRefusal}

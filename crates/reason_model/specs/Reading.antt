@@ -4,8 +4,8 @@ use mathlib.Core.Bool.{Bool, not, cond, _&&_, _||_}
 use mathlib.Core.List.{List, [], _∷_, map}
 use lib.Dec.{ltb, leb}
 use lib.ListN.{length, take, drop}
-use Rattle.decimal.specs.Ascii.{ascii}
-use Rattle.decimal.specs.Number.{digit, digits, zeroLed, spelled}
+use Rattle.decimal_model.specs.Ascii.{ascii}
+use Rattle.decimal_model.specs.Number.{digit, digits, zeroLed, spelled}
 use Rattle.lines.specs.Text.{same}
 use Rattle.refusals.specs.declared.Refusal.{Refusal}
 use Rattle.refusals.specs.declared.Refusal.the-variants.{Names, Unreadable, TextAfter, OutOfRange, AtOdds, Reservations, Superframes, SlotsUsed, LentTooShort, InputTooLong, InTree}
@@ -13,7 +13,7 @@ use Rattle.refusals.specs.declared.TreeRefusal.the-variants.{NodeNames, NodeLin
 use Rattle.refusals.specs.declared.Conflict.the-variants.{Orders, Routers, Sensors, SinkDepth, SinkBranches, FrameLength, Unacknowledged}
 use Rattle.refusals.specs.Refusals.{numberOf, placeOf}
 use Rattle.measure.specs.Measures.{slots}
-use Rattle.settings.specs.Columns.{Column, table}
+use Rattle.settings_model.specs.Columns.{Column, table}
 use Rattle.reason_model.specs.declared.Reading.{Reading}
 use Rattle.reason_model.specs.declared.Reading.the-variants.{Reason, NoReason}
 use Rattle.reason_model.specs.declared.Match.{Match}

@@ -6,8 +6,8 @@ use mathlib.Core.Bool.{Bool, cond, _&&_}
 use mathlib.Core.List.{List, [], _∷_, _++_, map}
 use lib.Dec.{leb, eqb}
 use lib.ListN.{length, getD, drop}
-use Rattle.decimal.specs.Ascii.{ascii}
-use Rattle.decimal.specs.Decimal.{decimal}
+use Rattle.decimal_model.specs.Ascii.{ascii}
+use Rattle.decimal_model.specs.Decimal.{decimal}
 use Rattle.refusals.specs.declared.Refusal.{Refusal}
 use Rattle.refusals.specs.declared.Refusal.the-variants.{Names, Unreadable, TextAfter, OutOfRange, AtOdds, Reservations, Superframes, SlotsUsed, LentTooShort, InputTooLong, InTree}
 use Rattle.refusals.specs.declared.TreeRefusal.{TreeRefusal}
@@ -17,7 +17,7 @@ use Rattle.refusals.specs.declared.Conflict.the-variants.{Orders, Routers, Sens
 use Rattle.refusals.specs.declared.Verdict.{Verdict}
 use Rattle.refusals.specs.declared.Verdict.the-variants.{Kept, Broken}
 use Rattle.refusals.specs.Refusals.{conflictPlace, placeOf}
-use Rattle.settings.specs.Columns.{table, columnAt}
+use Rattle.settings_model.specs.Columns.{table, columnAt}
 
 -- a column has a name
 unfoldable pub named : ℕ → Bool

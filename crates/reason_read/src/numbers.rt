@@ -1,7 +1,7 @@
 // Numbers in decimal, of any length.
 ghost use mathlib.Core.Path.{_≡_};
 ghost use Prim.Native.Nat.{_+_, _-_, _*_, _^_, _≤_, _<_, min};
-ghost use Rattle.decimal.specs.Number.{digits, zeroLed, spelled};
+ghost use Rattle.decimal_model.specs.Number.{digits, zeroLed, spelled};
 ghost use Rattle.reason_model.specs.Reading.{numeral, placeIn};
 use decimal::is_digit;
 use reason_model::Match;

@@ -5,7 +5,7 @@ use mathlib.Core.List.{List, [], _∷_, _++_}
 use Rattle.refusals.specs.declared.Refusal.{Refusal}
 use Rattle.refusals.specs.declared.Verdict.{Verdict}
 use Rattle.refusals.specs.declared.Verdict.the-variants.{Kept, Broken}
-use Rattle.refusals.specs.Conditions.{Condition, firstBroken}
+use Rattle.refusals.specs.Conditions.{Condition, condition, firstBroken}
 
 -- where no condition of the first list is broken, the second list answers
 pub first-append : {R A : Type 0} (f : R → A) (a : A) (xs ys : List (Condition R))
@@ -13,6 +13,21 @@ pub first-append : {R A : Type 0} (f : R → A) (a : A) (xs ys : List (Condition
 unfolding firstBroken
 first-append f a [] ys = refl
 first-append f a (x ∷ xs) ys = ap (cond (x .broken) (f (x .refusal))) (first-append f a xs ys)
+
+module _ (r : Refusal) (b : Bool) (cs : List (Condition Refusal)) where
+  -- a condition that is kept is passed over, and one that is broken answers
+  pub passed-over : b ≡ false → firstBroken Broken Kept (condition b r ∷ cs) ≡ firstBroken Broken Kept cs
+  unfolding firstBroken
+  passed-over e = rw e
+
+  pub broken-answers : b ≡ true → firstBroken Broken Kept (condition b r ∷ cs) ≡ Broken r
+  unfolding firstBroken
+  broken-answers e = rw e
+
+-- and where none is left, all are kept
+pub none-left : firstBroken Broken Kept [] ≡ Kept
+unfolding firstBroken
+none-left = refl
 
 -- the first broken condition of a list
 abbrev pub verdict : List (Condition Refusal) → Verdict

@@ -1,23 +1,23 @@
 // The printed plan (document 01, 'The printed plan'; document 02, E3): the text of a plan's lines, and of a refusal.
 //
 // No public function has a `requires`. Each puts its text into lent memory as far as there is room, leaves all other bytes as they
-// were, and answers the text's whole length, as equations with definitions of specs/ say. A plan is put piece by piece: its header
+// were, and answers the text's whole length, as equations with definitions of report_model say. A plan is put piece by piece: its header
 // line at the front, and each line behind the text before it.
 ghost use mathlib.Core.Path.{_≡_};
 ghost use mathlib.Core.List.{[], _∷_, _++_};
 ghost use Prim.Native.Nat.{_≤_, min};
 ghost use lib.ListN.{length};
 ghost use lib.Seq.{sets};
-ghost use Rattle.report.specs.Text.{header, lineText, refusalText};
-ghost use Rattle.report.specs.TreeText.{treeHeader, nodeText};
+ghost use Rattle.report_model.specs.Text.{header, lineText, refusalText};
+ghost use Rattle.report_model.specs.TreeText.{treeHeader, nodeText};
 use crate::line::put_ended;
 use crate::line::put_node_ended;
 use crate::line::put_spaced;
-use balanced::Line;
 use buffer::put_byte;
 use buffer::put_bytes;
 use refusals::Refusal;
-use tree::NodeLine;
+use row_model::Line;
+use tree_model::NodeLine;
 
 mod line; // one line of a plan
 

@@ -8,7 +8,6 @@ ghost use Rattle.calls_model.specs.Calls.{left};
 ghost use Rattle.calls_model.specs.Entries.{planRow, checkRow};
 ghost use Rattle.calls_model.specs.Reasons.{explainRow, ReadAgain};
 ghost use Rattle.calls_model.specs.Promise.{Promised};
-use answers::plan_named_row;
 use calls::answer_of;
 use calls::leave;
 use calls::refused;
@@ -16,6 +15,7 @@ use calls_model::Answer;
 use reason_print::put_verdict;
 use refusals::Refusal;
 use report::LONGEST;
+use row_answer::plan_named_row;
 
 // Plans a row under a line of names, both without their LF, and writes nothing.
 pub fn check_row(names: &[u8], row: &[u8]) -> Answer

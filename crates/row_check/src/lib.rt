@@ -7,12 +7,12 @@ ghost use Prim.Native.Nat.{_≤_, _^_, suc};
 ghost use Rattle.network.specs.Counting.{total};
 ghost use Rattle.refusals.specs.declared.Verdict.the-variants.{Kept, Broken};
 ghost use Rattle.refusals.specs.Conditions.{firstBroken};
-ghost use Rattle.settings.specs.Laws.{Checked};
-ghost use Rattle.balanced.specs.Checks.{reservations, routersFit};
+ghost use Rattle.settings_model.specs.Laws.{Checked};
+ghost use Rattle.row_model.specs.Checks.{reservations, routersFit};
 ghost use Rattle.plan_model.specs.Inner.{checksBeforeSlots};
 use refusals::Refusal;
 use refusals::Verdict;
-use settings::Settings;
+use settings_model::Settings;
 
 // The reservations that a superframe describes, at most.
 const MOST_RESERVATIONS: u64 = 7;

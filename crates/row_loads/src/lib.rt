@@ -5,7 +5,7 @@
 ghost use mathlib.Core.Path.{_≡_};
 ghost use Rattle.refusals.specs.declared.Verdict.the-variants.{Kept, Broken};
 ghost use Rattle.refusals.specs.Conditions.{firstBroken};
-ghost use Rattle.balanced.specs.Bounds.{Sound};
+ghost use Rattle.row_model.specs.Bounds.{Sound};
 ghost use Rattle.plan_model.specs.Inner.{LinksHeld, checksBeforeSlots};
 use crate::loads::downward_links;
 use crate::loads::link_for;
@@ -20,7 +20,7 @@ use plan_common::timing_of;
 use plan_model::Links;
 use refusals::Verdict;
 use row_check::check_before_slots;
-use settings::Settings;
+use settings_model::Settings;
 
 pub mod table; // the links of the depths
 mod loads; // the load and the reservation of every link, from depth H to the root and on to the sink

@@ -3,9 +3,9 @@ ghost use mathlib.Core.Path.{_≡_};
 ghost use Prim.Native.Nat.{_≤_, _<_, _^_};
 ghost use lib.ListN.{length};
 ghost use Rattle.links.specs.Answers.{Timed};
-ghost use Rattle.balanced.specs.Times.{timingOf};
-ghost use Rattle.balanced.specs.Loads.{sensor, near};
-ghost use Rattle.balanced.specs.Bounds.{Sound, Bounded};
+ghost use Rattle.row_model.specs.Times.{timingOf};
+ghost use Rattle.row_model.specs.Loads.{sensor, near};
+ghost use Rattle.row_model.specs.Bounds.{Sound, Bounded};
 ghost use Rattle.plan_model.specs.Inner.{HeldFrom, HeldBelow, coming, joined, leftBy, linkOf, linkUp, linkDown, noLoad};
 use crate::table::link_at;
 use crate::table::set_link;
@@ -16,7 +16,7 @@ use measure::FrameSymbols;
 use measure::Frames;
 use measure::Rate;
 use plan_model::Link;
-use settings::Settings;
+use settings_model::Settings;
 
 // The load of a sensor.
 pub(crate) fn sensor_load(s: Settings, t: Timing) -> Load

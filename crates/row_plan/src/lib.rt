@@ -5,13 +5,13 @@
 ghost use mathlib.Core.Path.{_≡_};
 ghost use Rattle.refusals.specs.declared.Verdict.the-variants.{Kept, Broken};
 ghost use Rattle.refusals.specs.Conditions.{firstBroken};
-ghost use Rattle.balanced.specs.Checks.{conditions};
+ghost use Rattle.row_model.specs.Checks.{conditions};
 ghost use Rattle.plan_model.specs.Inner.{LinksHeld};
 use crate::slots::slots_fit;
 use plan_model::Links;
 use refusals::Verdict;
 use row_loads::links_of;
-use settings::Settings;
+use settings_model::Settings;
 
 mod slots; // number 7
 

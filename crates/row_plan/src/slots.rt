@@ -7,17 +7,17 @@ ghost use Rattle.refusals.specs.declared.Refusal.the-variants.{SlotsUsed};
 ghost use Rattle.refusals.specs.Conditions.{condition, firstBroken};
 ghost use mathlib.Core.List.{[], _∷_};
 ghost use lib.Dec.{ltb};
-ghost use Rattle.settings.specs.Laws.{Checked};
-ghost use Rattle.balanced.specs.Times.{timingOf, reservableAt};
-ghost use Rattle.balanced.specs.Loads.{sensor};
-ghost use Rattle.balanced.specs.Checks.{usedOffPath, usedOnPath, hasOffPath, offPathAt, usedAt, usedFrom};
-ghost use Rattle.balanced.specs.Bounds.{Sound};
+ghost use Rattle.settings_model.specs.Laws.{Checked};
+ghost use Rattle.row_model.specs.Times.{timingOf, reservableAt};
+ghost use Rattle.row_model.specs.Loads.{sensor};
+ghost use Rattle.row_model.specs.Checks.{usedOffPath, usedOnPath, hasOffPath, offPathAt, usedAt, usedFrom};
+ghost use Rattle.row_model.specs.Bounds.{Sound};
 ghost use Rattle.plan_model.specs.Inner.{HeldFrom, HeldBelow, linkOf, linkUp, linkDown};
 use measure::Slots;
 use refusals::Refusal;
 use refusals::Verdict;
 use row_loads::table::link_at;
-use settings::Settings;
+use settings_model::Settings;
 use superframe::orders::reservable_slots;
 
 // Number 7: the first depth at which the slots used exceed its L, if there is one. `end` is an end node's reservation.

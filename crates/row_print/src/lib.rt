@@ -8,13 +8,13 @@ ghost use Prim.Native.Nat.{_≤_};
 ghost use lib.ListN.{length};
 ghost use lib.Seq.{sets};
 ghost use Rattle.refusals.specs.declared.Verdict.the-variants.{Kept};
-ghost use Rattle.balanced.specs.Times.{timingOf};
-ghost use Rattle.balanced.specs.Loads.{sensor, atSink};
-ghost use Rattle.balanced.specs.Lines.{lines};
-ghost use Rattle.balanced.specs.Outcome.{outcomeOf};
-ghost use Rattle.balanced.specs.Promise.{Keeps};
-ghost use Rattle.balanced.specs.Bounds.{Sound};
-ghost use Rattle.report.specs.Text.{text};
+ghost use Rattle.row_model.specs.Times.{timingOf};
+ghost use Rattle.row_model.specs.Loads.{sensor, atSink};
+ghost use Rattle.row_model.specs.Lines.{lines};
+ghost use Rattle.row_model.specs.Outcome.{outcomeOf};
+ghost use Rattle.row_model.specs.Promise.{Keeps};
+ghost use Rattle.row_model.specs.Bounds.{Sound};
+ghost use Rattle.report_model.specs.Text.{text};
 ghost use Rattle.plan_model.specs.Plans.{answer, written};
 ghost use Rattle.plan_model.specs.Inner.{HeldFrom, HeldBelow, linkOf, linkUp, linkDown};
 use crate::page::put_downward;
@@ -29,7 +29,7 @@ use plan_model::Plan;
 use plan_model::Written;
 use refusals::Verdict;
 use row_plan::decide;
-use settings::Settings;
+use settings_model::Settings;
 
 mod page; // the lines, put one behind another
 

@@ -2,15 +2,13 @@
 ghost use mathlib.Core.Path.{_≡_};
 ghost use Prim.Native.Nat.{_+_, _≤_};
 ghost use Rattle.links.specs.Answers.{figuresAnswered};
-ghost use Rattle.balanced.specs.Times.{timingOf};
-ghost use Rattle.balanced.specs.Loads.{sensor, atSink};
-ghost use Rattle.balanced.specs.declared.Kind.the-variants.{Sink};
-ghost use Rattle.balanced.specs.Lines.{line, totalDelay, sinkFigures, endLines, upLines};
-ghost use Rattle.balanced.specs.Bounds.{Sound};
+ghost use Rattle.row_model.specs.Times.{timingOf};
+ghost use Rattle.row_model.specs.Loads.{sensor, atSink};
+ghost use Rattle.row_model.specs.declared.Kind.the-variants.{Sink};
+ghost use Rattle.row_model.specs.Lines.{line, totalDelay, sinkFigures, endLines, upLines};
+ghost use Rattle.row_model.specs.Bounds.{Sound};
 ghost use Rattle.plan_model.specs.Inner.{HeldFrom, HeldBelow, linkOf, linkUp, linkDown};
 ghost use Rattle.plan_model.specs.Pages.{page, pushed, filled, downLinesFrom};
-use balanced::Kind;
-use balanced::Line;
 use links::Figures;
 use links::Load;
 use measure::Frames;
@@ -19,7 +17,9 @@ use measure::Symbols;
 use plan_model::Link;
 use plan_model::Written;
 use row_loads::table::link_at;
-use settings::Settings;
+use row_model::Kind;
+use row_model::Line;
+use settings_model::Settings;
 
 // Puts one line more.
 fn put_next(out: &mut [u8], w: Written, line: Line) -> Written

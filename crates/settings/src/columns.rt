@@ -4,9 +4,9 @@ ghost use Prim.Native.Nat.{_+_, _<_};
 ghost use lib.ListN.{length};
 ghost use Rattle.refusals.specs.declared.Verdict.the-variants.{Kept, Broken};
 ghost use Rattle.refusals.specs.declared.Refusal.the-variants.{OutOfRange};
-ghost use Rattle.settings.specs.Columns.{table, columnAt, within};
+ghost use Rattle.settings_model.specs.Columns.{table, columnAt, within};
 ghost use Rattle.refusals.specs.Conditions.{firstBroken};
-ghost use Rattle.settings.specs.Checks.{ranged};
+ghost use Rattle.settings_model.specs.Checks.{ranged};
 use refusals::Refusal;
 use refusals::Verdict;
 

@@ -1,35 +1,19 @@
 // Settings (document 01, 'Rows of settings'; LOSS: document 02, E5): thirteen values, and whether they keep the conditions of numbers 3 and 4.
 // Nothing here knows how they are written.
 //
-// No public function has a `requires`: each answers every argument, as an equation with a definition of specs/ says. Nothing is
+// No public function has a `requires`: each answers every argument, as an equation with a definition of settings_model says. Nothing is
 // written anywhere.
 ghost use mathlib.Core.Path.{_≡_};
 ghost use Rattle.refusals.specs.declared.Verdict.the-variants.{Kept, Broken};
 ghost use Rattle.refusals.specs.Conditions.{firstBroken};
-ghost use Rattle.settings.specs.Checks.{valuesOf, checks};
+ghost use Rattle.settings_model.specs.Checks.{valuesOf, checks};
 use crate::columns::in_range;
 use crate::odds::agree;
 use refusals::Verdict;
+use settings_model::Settings;
 
 mod columns; // the values' ranges: number 3
 mod odds; // values at odds: number 4
-
-// The values of a row, by its columns: BO SO H NR NE OWN SINK BURST RATE HEAD DATA ACK LOSS.
-pub struct Settings {
-    pub bo: u64,
-    pub so: u64,
-    pub h: u64,
-    pub nr: u64,
-    pub ne: u64,
-    pub own: u64,
-    pub sink: u64,
-    pub burst: u64,
-    pub rate: u64,
-    pub head: u64,
-    pub payload: u64,
-    pub ack: u64,
-    pub loss: u64,
-}
 
 // Whether settings keep every range and are not at odds, or the first refusal of numbers 3 and 4.
 pub fn check(s: Settings) -> Verdict

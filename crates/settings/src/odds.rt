@@ -6,11 +6,11 @@ ghost use lib.Dec.{ltb, eqb};
 ghost use Rattle.refusals.specs.declared.Verdict.the-variants.{Kept, Broken};
 ghost use Rattle.refusals.specs.declared.Refusal.the-variants.{AtOdds};
 ghost use Rattle.refusals.specs.Conditions.{firstBroken};
-ghost use Rattle.settings.specs.Checks.{atOdds};
-use crate::Settings;
+ghost use Rattle.settings_model.specs.Checks.{atOdds};
 use refusals::Conflict;
 use refusals::Refusal;
 use refusals::Verdict;
+use settings_model::Settings;
 
 // The most octets that a frame has.
 const LONGEST_FRAME: u64 = 127;

@@ -7,7 +7,7 @@ ghost use mathlib.Core.Path.{_≡_};
 ghost use Prim.Native.Nat.{_≤_};
 ghost use lib.ListN.{length};
 ghost use lib.Seq.{sets};
-ghost use Rattle.tree.specs.Beside as definition;
+ghost use Rattle.tree_model.specs.Beside as definition;
 ghost use Rattle.calls_model.specs.Calls.{left};
 ghost use Rattle.calls_model.specs.Reasons.{ReadAgain};
 ghost use Rattle.calls_model.specs.Trees.{planTree, checkTree, treeSpoken, explainTree};
@@ -21,8 +21,8 @@ use reason_print::put_reason;
 use refusals::Refusal;
 use refusals::Verdict;
 use report::LONGEST_TREE;
-use settings::Settings;
-use surveys::beside;
+use settings_model::Settings;
+use tree_plan::beside;
 
 // Plans the tree of a node list, and writes nothing.
 pub fn check_tree(
@@ -47,7 +47,7 @@ pub fn check_tree(
         loss as u64,
     );
     let mut space = [0u8; 1];
-    answer_of(surveys::plan_tree(nodes, b, sink as u64, &mut space))
+    answer_of(tree_plan::plan_tree(nodes, b, sink as u64, &mut space))
 }
 
 // Plans the tree of a node list, and puts its text at the front of the lent buffer. A refused tree, also one whose text is longer than the
@@ -77,7 +77,7 @@ pub fn plan_tree(
     if out.len() < LONGEST_TREE {
         return plan_where_room(nodes, b, sink as u64, out);
     }
-    answer_of(surveys::plan_tree(nodes, b, sink as u64, out))
+    answer_of(tree_plan::plan_tree(nodes, b, sink as u64, out))
 }
 
 // Puts one line of English at the front of the lent buffer: why the tree is refused, or that it is planned. A buffer that is shorter than the
@@ -105,7 +105,7 @@ pub fn explain_tree(
         loss as u64,
     );
     let mut space = [0u8; 1];
-    let plan = surveys::plan_tree(nodes, b, sink as u64, &mut space);
+    let plan = tree_plan::plan_tree(nodes, b, sink as u64, &mut space);
     let answer = answer_of(plan);
     let verdict = plan.verdict;
     let mut line = [0u8; reason_print::LONGEST];
@@ -118,11 +118,11 @@ fn plan_where_room(nodes: &[u8], b: Settings, sink: u64, out: &mut [u8]) -> Answ
     ensures { λ r. ⌜ left r (now (out .exit)) ≡ planTree (now (nodes .entry)) b sink (now (out .entry)) ⌝ }
 {
     let mut space = [0u8; 1];
-    let n = surveys::plan_tree(nodes, b, sink, &mut space).length;
+    let n = tree_plan::plan_tree(nodes, b, sink, &mut space).length;
     if out.len() < n {
         return refused(Refusal::LentTooShort);
     }
-    answer_of(surveys::plan_tree(nodes, b, sink, out))
+    answer_of(tree_plan::plan_tree(nodes, b, sink, out))
 }
 
 // Puts the line of a tree that was refused, or that it is planned, and answers its length.

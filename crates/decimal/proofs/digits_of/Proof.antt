@@ -4,9 +4,9 @@ use Prim.Native.Nat.{_+_}
 use native.Mathlib.Omega.{arith}
 use borrow.Author.Needs.{needs}
 use lib.ListN.{length}
-use Rattle.decimal.specs.Decimal.{decimal}
-use Rattle.decimal.proofs.Writing.{at-most-twenty}
-use Rattle.decimal.proofs.Putting.{length-more}
+use Rattle.decimal_model.specs.Decimal.{decimal}
+use Rattle.decimal_model.proofs.Writing.{at-most-twenty}
+use Rattle.decimal_model.proofs.Putting.{length-more}
 use Rattle.decimal.proofs.digits_of.Statement.{statement}
 use Rattle.decimal.proofs.digits_of.Tie as tie
 

@@ -1,6 +1,6 @@
 -- `decimal::few_digits` meets its contract. Assumes nothing.
 use native.Mathlib.Omega.{arith}
-use Rattle.decimal.proofs.Putting.{length-one, length-two, length-three, length-four}
+use Rattle.decimal_model.proofs.Putting.{length-one, length-two, length-three, length-four}
 use Rattle.decimal.proofs.few_digits.Statement.{statement}
 use Rattle.decimal.proofs.few_digits.Tie as tie
 

@@ -2,8 +2,8 @@
 use lib.ListN.{length}
 use native.Mathlib.Omega.{arith}
 use borrow.Author.Tests.{le-leb, lt-leb}
-use Rattle.decimal.specs.Number.{shaped}
-use Rattle.decimal.proofs.Spelling.{shaped-one, shaped-several}
+use Rattle.decimal_model.specs.Number.{shaped}
+use Rattle.decimal_model.proofs.Spelling.{shaped-one, shaped-several}
 use borrow.Author.Needs.{needs}
 use Rattle.decimal.proofs.is_shaped.Statement.{statement}
 use Rattle.decimal.proofs.is_shaped.Tie as tie

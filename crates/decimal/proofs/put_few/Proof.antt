@@ -1,5 +1,5 @@
 -- `decimal::put_few` meets its contract. Assumes nothing.
-use Rattle.decimal.proofs.Putting.{put-one, put-two, put-three, put-four}
+use Rattle.decimal_model.proofs.Putting.{put-one, put-two, put-three, put-four}
 use borrow.Author.Needs.{needs}
 use Rattle.decimal.proofs.put_few.Statement.{statement}
 use Rattle.decimal.proofs.put_few.Tie as tie

@@ -1,5 +1,5 @@
 -- `decimal::put_four` meets its contract. Assumes nothing.
-use Rattle.decimal.proofs.Putting.{put-digits}
+use Rattle.decimal_model.proofs.Putting.{put-digits}
 use borrow.Author.Needs.{needs}
 use Rattle.decimal.proofs.put_four.Statement.{statement}
 use Rattle.decimal.proofs.put_four.Tie as tie

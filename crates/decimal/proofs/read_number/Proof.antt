@@ -5,8 +5,8 @@ use native.Mathlib.Omega.{arith}
 use borrow.Author.Needs.{needs}
 use borrow.Author.Tests.{not-true, not-false}
 use lib.ListN.{length, getD, drop, drop-of-length-le}
-use Rattle.decimal.specs.Number.{digits, spelledAfter, spelled}
-use Rattle.decimal.proofs.Spelling.{digit-range, digits-step, spelled-step, ten-more, ten-small, shaped-length, unshaped, undigit, spells}
+use Rattle.decimal_model.specs.Number.{digits, spelledAfter, spelled}
+use Rattle.decimal_model.proofs.Spelling.{digit-range, digits-step, spelled-step, ten-more, ten-small, shaped-length, unshaped, undigit, spells}
 use Rattle.decimal.proofs.read_number.Statement.{statement}
 use Rattle.decimal.proofs.read_number.Tie as tie
 

@@ -3,9 +3,9 @@ use mathlib.Core.Path.{_≡_, sym}
 use native.Mathlib.Omega.{arith}
 use lib.ListN.{length}
 use lib.Seq.{length-take-le}
-use Rattle.batch.specs.declared.Style.the-variants.{Reasons}
-use Rattle.batch.specs.Laws.{toGo}
-use Rattle.batch.proofs.LawsHold.{piece-nearer}
+use Rattle.row_program_model.specs.declared.Style.the-variants.{Reasons}
+use Rattle.row_program_model.specs.Laws.{toGo}
+use Rattle.row_program_model.proofs.LawsHold.{piece-nearer}
 use borrow.Author.Needs.{needs}
 use borrow.Author.Tests.{not-false}
 use Rattle.explain.proofs.print.Statement.{statement}

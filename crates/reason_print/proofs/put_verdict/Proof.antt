@@ -1,7 +1,7 @@
 -- `reason_print::put_verdict` meets its contract. Assumes nothing.
 use mathlib.Core.Path.{_≡_}
 use native.Mathlib.Omega.{arith}
-use Rattle.decimal.specs.Ascii.{ascii}
+use Rattle.decimal_model.specs.Ascii.{ascii}
 use Rattle.reason_model.specs.Reasons.{spoken}
 use borrow.Author.Needs.{needs}
 use Rattle.reason_print.proofs.put_verdict.Statement.{statement}

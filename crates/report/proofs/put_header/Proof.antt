@@ -1,7 +1,7 @@
 -- `report::put_header` meets its contract. Assumes nothing.
 use borrow.Author.Needs.{needs}
-use Rattle.decimal.specs.Ascii.{ascii}
-use Rattle.report.specs.Text.{header}
+use Rattle.decimal_model.specs.Ascii.{ascii}
+use Rattle.report_model.specs.Text.{header}
 use Rattle.report.proofs.put_header.Statement.{statement}
 use Rattle.report.proofs.put_header.Tie as tie
 

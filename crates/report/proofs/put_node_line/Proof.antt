@@ -2,7 +2,7 @@
 use mathlib.Core.Path.{_∙_}
 use mathlib.Core.List.{[], _∷_, _++_}
 use native.Mathlib.Omega.{arith}
-use Rattle.report.specs.TreeText.{nodeText}
+use Rattle.report_model.specs.TreeText.{nodeText}
 use Rattle.buffer.proofs.Behind.{sets-lower}
 use borrow.Author.Needs.{needs}
 use Rattle.report.proofs.put_node_line.Statement.{statement}

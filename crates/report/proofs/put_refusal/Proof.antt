@@ -2,8 +2,8 @@
 use mathlib.Core.List.{_∷_}
 use native.Mathlib.Omega.{arith}
 use borrow.Author.Needs.{needs}
-use Rattle.decimal.specs.Decimal.{decimal}
-use Rattle.report.proofs.LineText.{refusal-spaced}
+use Rattle.decimal_model.specs.Decimal.{decimal}
+use Rattle.report_model.proofs.LineText.{refusal-spaced}
 use Rattle.buffer.proofs.Behind.{put-one, put-behind, byte-behind, front-ends}
 use Rattle.report.proofs.put_refusal.Statement.{statement}
 use Rattle.report.proofs.put_refusal.Tie as tie

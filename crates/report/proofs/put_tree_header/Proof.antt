@@ -1,6 +1,6 @@
 -- `report::put_tree_header` meets its contract. Assumes nothing.
-use Rattle.decimal.specs.Ascii.{ascii}
-use Rattle.report.specs.TreeText.{treeHeader}
+use Rattle.decimal_model.specs.Ascii.{ascii}
+use Rattle.report_model.specs.TreeText.{treeHeader}
 use borrow.Author.Needs.{needs}
 use Rattle.report.proofs.put_tree_header.Statement.{statement}
 use Rattle.report.proofs.put_tree_header.Tie as tie

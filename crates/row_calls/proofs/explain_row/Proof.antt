@@ -5,8 +5,8 @@ use lib.ListN.{replicate}
 use lib.Seq.{length-take-le}
 use Rattle.buffer.proofs.Putting.{put-front}
 use Rattle.plan_model.specs.declared.Plan.{Plan}
-use Rattle.answers.specs.Outcomes.{namedOutcome}
-use Rattle.report.specs.Text.{text}
+use Rattle.row_answer_model.specs.Outcomes.{namedOutcome}
+use Rattle.report_model.specs.Text.{text}
 use Rattle.reason_model.specs.Reasons.{spoken}
 use Rattle.calls_model.specs.Reasons.{rowLine, explainRow}
 use Rattle.calls_model.proofs.Leaving.{plan-told}

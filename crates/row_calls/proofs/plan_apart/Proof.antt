@@ -3,10 +3,10 @@ use mathlib.Core.Path.{_≡_, refl, sym}
 use native.Mathlib.Omega.{arith}
 use lib.ListN.{length, take, replicate}
 use lib.Seq.{length-take-le}
-use Rattle.row.specs.Names.{headingOf}
-use Rattle.balanced.specs.Lines.{lines}
-use Rattle.answers.specs.Outcomes.{spelledSettings, rowConditions, rowOutcome, namedOutcome}
-use Rattle.report.specs.Text.{text}
+use Rattle.row_read_model.specs.Names.{headingOf}
+use Rattle.row_model.specs.Lines.{lines}
+use Rattle.row_answer_model.specs.Outcomes.{spelledSettings, rowConditions, rowOutcome, namedOutcome}
+use Rattle.report_model.specs.Text.{text}
 use Rattle.calls_model.specs.Entries.{planRow}
 use borrow.Author.Needs.{needs}
 use Rattle.calls_model.proofs.Leaving.{plan-short, plan-copied}

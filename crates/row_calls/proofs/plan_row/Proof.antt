@@ -1,9 +1,9 @@
 -- `row_calls::plan_row` meets its contract. Assumes nothing.
 use native.Mathlib.Omega.{arith}
-use Rattle.row.specs.Names.{headingOf}
-use Rattle.balanced.specs.Lines.{lines}
-use Rattle.answers.specs.Outcomes.{spelledSettings, rowConditions, rowOutcome, namedOutcome}
-use Rattle.report.specs.Text.{text}
+use Rattle.row_read_model.specs.Names.{headingOf}
+use Rattle.row_model.specs.Lines.{lines}
+use Rattle.row_answer_model.specs.Outcomes.{spelledSettings, rowConditions, rowOutcome, namedOutcome}
+use Rattle.report_model.specs.Text.{text}
 use Rattle.calls_model.specs.Entries.{planRow}
 use borrow.Author.Needs.{needs}
 use Rattle.calls_model.proofs.Leaving.{plan-left}

@@ -1,5 +1,5 @@
 -- `row_check::reservations_fit` meets its contract. Assumes nothing.
-use Rattle.balanced.specs.Checks.{reservations}
+use Rattle.row_model.specs.Checks.{reservations}
 use native.Mathlib.Omega.{arith}
 use Rattle.plan_model.proofs.Conditions.{over-limit, in-limit}
 use Prim.Native.Nat.{_+_}

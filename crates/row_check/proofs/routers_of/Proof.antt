@@ -1,5 +1,5 @@
 -- `row_check::routers_of` meets its contract. Assumes nothing.
-use Rattle.balanced.proofs.LoadBounds.{full, full-one, full-more}
+use Rattle.row_model.proofs.LoadBounds.{full, full-one, full-more}
 use native.Mathlib.Numerals.{add-one}
 use native.Mathlib.Nat.{mul-le-mul}
 use Prim.Native.Nat.{_-_, _^_, _≤_}

@@ -1,8 +1,8 @@
 -- `row_print::plan_of` meets its contract. Assumes nothing.
 use mathlib.Core.Path.{sym, _∙_}
 use borrow.Author.Needs.{needs}
-use Rattle.balanced.specs.Lines.{lines}
-use Rattle.report.specs.Text.{text}
+use Rattle.row_model.specs.Lines.{lines}
+use Rattle.report_model.specs.Text.{text}
 use Rattle.plan_model.proofs.Answers.{broken-refused, kept-planned, plan-keeps}
 use Rattle.plan_model.proofs.Answered.{refused-answer, refused-put, refused-short, planned-answer, planned-put}
 use Rattle.row_print.proofs.plan_of.Statement.{statement}

@@ -3,8 +3,8 @@ use mathlib.Core.Path.{sym, _∙_}
 use borrow.Author.Needs.{needs}
 use Rattle.refusals.specs.declared.Verdict.the-variants.{Kept, Broken}
 use Rattle.refusals.proofs.Answering.{first-part-answers, second-part-answers}
-use Rattle.settings.specs.Columns.{table}
-use Rattle.settings.specs.Checks.{valuesOf, ranged, atOdds, checks}
+use Rattle.settings_model.specs.Columns.{table}
+use Rattle.settings_model.specs.Checks.{valuesOf, ranged, atOdds, checks}
 use Rattle.settings.proofs.check.Statement.{statement}
 use Rattle.settings.proofs.check.Tie as tie
 

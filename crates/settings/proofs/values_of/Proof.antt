@@ -1,6 +1,6 @@
 -- `settings::values_of` meets its contract. Assumes nothing.
 use mathlib.Core.Path.{refl}
-use Rattle.settings.specs.Checks.{valuesOf}
+use Rattle.settings_model.specs.Checks.{valuesOf}
 use Rattle.settings.proofs.values_of.Statement.{statement}
 use Rattle.settings.proofs.values_of.Tie as tie
 

@@ -15,22 +15,25 @@ product-fits-requires : tie.Need-product-fits-requires
 product-fits-requires c κs = search needs
 
 mul-rounded-up : tie.Need-mul-rounded-up
-mul-rounded-up c = record { fits = ltb-true _ _ (cc) }
+mul-rounded-up c = let then = c .before .before in
+    record { fits = ltb-true _ _ (sym (then .before .product-fits .ensures) ∙ then .if1 .taken) }
 
 rounded-up-requires : tie.Need-rounded-up-requires
 rounded-up-requires c κs = search needs
 
 returns : tie.Need-returns
 unfolding slotsFor
-returns c = let a = c .before .before .before .before .before .args in
+returns c = let then = c .before .before .before in
+    let fits = then .before in
+    let a = fits .before .args in
     let e : slots (c .rounded-up .result) ≡ slotsFor (a .load) (a .s) (a .x) = ap slots (c .rounded-up .ensures) in (
-      e ∙ sym (within-fits (a .load .0 * a .x .0) _ _ (ltb-true _ _ (cc))),
+      e ∙ sym (within-fits (a .load .0 * a .x .0) _ _ (ltb-true _ _ (sym (fits .product-fits .ensures) ∙ then .if1 .taken))),
       λ ps px _. rw e (slots-smallest (a .load) (a .s) (a .x) ps px),
     )
 
 returns-2 : tie.Need-returns-2
 returns-2 c = let a = c .before .before .args in
-    let past : 2 ^ 64 ≤ a .load .0 * a .x .0 = ltb-false _ _ (cc) in
+    let past : 2 ^ 64 ≤ a .load .0 * a .x .0 = ltb-false _ _ (sym (c .before .product-fits .ensures) ∙ c .if1 .left) in
     (sym (within-past (a .load .0 * a .x .0) _ _ past), λ _ _ fits. absurd (omega arith))
 
 pub slots-for-spec : {M : Type 1} → statement M

@@ -1,9 +1,9 @@
 -- `tree_calls::check_tree` meets its contract. Assumes nothing.
 use mathlib.Core.Path.{ap, _∙_}
-use Rattle.settings.specs.declared.Settings.{Settings}
-use Rattle.tree.specs.Beside.{beside}
-use Rattle.nodes.specs.Survey.{outcomeIn}
-use Rattle.report.specs.TreeText.{treeText}
+use Rattle.settings_model.specs.declared.Settings.{Settings}
+use Rattle.tree_model.specs.Beside.{beside}
+use Rattle.tree_read_model.specs.Survey.{outcomeIn}
+use Rattle.report_model.specs.TreeText.{treeText}
 use Rattle.plan_model.specs.Plans.{answer}
 use Rattle.calls_model.specs.Trees.{checkTree}
 use Rattle.calls_model.proofs.Leaving.{plan-told, told-short}

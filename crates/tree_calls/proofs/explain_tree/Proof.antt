@@ -4,11 +4,11 @@ use native.Mathlib.Omega.{arith}
 use lib.ListN.{replicate}
 use lib.Seq.{length-take-le}
 use Rattle.buffer.proofs.Putting.{put-front}
-use Rattle.settings.specs.declared.Settings.{Settings}
+use Rattle.settings_model.specs.declared.Settings.{Settings}
 use Rattle.plan_model.specs.declared.Plan.{Plan}
-use Rattle.tree.specs.Beside.{beside}
-use Rattle.nodes.specs.Survey.{outcomeIn}
-use Rattle.report.specs.TreeText.{treeText}
+use Rattle.tree_model.specs.Beside.{beside}
+use Rattle.tree_read_model.specs.Survey.{outcomeIn}
+use Rattle.report_model.specs.TreeText.{treeText}
 use Rattle.plan_model.specs.Plans.{answer}
 use Rattle.calls_model.specs.Trees.{checkTree, treeSpoken, explainTree}
 use Rattle.calls_model.proofs.Leaving.{plan-told}

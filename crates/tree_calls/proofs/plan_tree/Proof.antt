@@ -2,13 +2,13 @@
 use mathlib.Core.Path.{ap, _∙_}
 use native.Mathlib.Omega.{arith}
 use lib.Seq.{sets}
-use Rattle.settings.specs.declared.Settings.{Settings}
-use Rattle.tree.specs.Beside.{beside}
+use Rattle.settings_model.specs.declared.Settings.{Settings}
+use Rattle.tree_model.specs.Beside.{beside}
 use mathlib.Core.List.{_++_}
-use Rattle.tree.specs.Lines.{lines}
-use Rattle.tree.specs.Checks.{conditions}
-use Rattle.nodes.specs.Survey.{treeIn, surveyed, outcomeIn}
-use Rattle.report.specs.TreeText.{treeText}
+use Rattle.tree_model.specs.Lines.{lines}
+use Rattle.tree_model.specs.Checks.{conditions}
+use Rattle.tree_read_model.specs.Survey.{treeIn, surveyed, outcomeIn}
+use Rattle.report_model.specs.TreeText.{treeText}
 use Rattle.plan_model.specs.Plans.{answer, written}
 use Rattle.calls_model.specs.Trees.{planTree}
 use Rattle.calls_model.proofs.Leaving.{plan-left}

@@ -3,10 +3,10 @@ use mathlib.Core.Path.{_≡_, sym, ap, _∙_}
 use native.Mathlib.Omega.{arith}
 use Rattle.plan_model.specs.declared.Plan.{Plan}
 use mathlib.Core.List.{_++_}
-use Rattle.tree.specs.Lines.{lines}
-use Rattle.tree.specs.Checks.{conditions}
-use Rattle.nodes.specs.Survey.{treeIn, surveyed, outcomeIn}
-use Rattle.report.specs.TreeText.{treeText}
+use Rattle.tree_model.specs.Lines.{lines}
+use Rattle.tree_model.specs.Checks.{conditions}
+use Rattle.tree_read_model.specs.Survey.{treeIn, surveyed, outcomeIn}
+use Rattle.report_model.specs.TreeText.{treeText}
 use Rattle.calls_model.specs.Trees.{planTree}
 use Rattle.calls_model.proofs.Leaving.{plan-left, plan-short}
 use borrow.Author.Needs.{needs}

@@ -1,6 +1,6 @@
 -- `tree_calls::put_tree_verdict` meets its contract. Assumes nothing.
 use native.Mathlib.Omega.{arith}
-use Rattle.decimal.specs.Ascii.{ascii}
+use Rattle.decimal_model.specs.Ascii.{ascii}
 use Rattle.calls_model.specs.Trees.{treeSpoken}
 use borrow.Author.Needs.{needs}
 use Rattle.tree_calls.proofs.put_tree_verdict.Statement.{statement}

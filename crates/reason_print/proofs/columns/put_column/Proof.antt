@@ -5,8 +5,8 @@ use Prim.Native.Nat.{ℕ}
 use native.Mathlib.Omega.{arith}
 use lib.ListN.{length}
 use lib.Seq.{sets}
-use Rattle.decimal.specs.Ascii.{ascii}
-use Rattle.settings.specs.Columns.{twelve, table}
+use Rattle.decimal_model.specs.Ascii.{ascii}
+use Rattle.settings_model.specs.Columns.{twelve, table}
 use Rattle.reason_model.specs.Reasons.{named, columnName}
 use Rattle.reason_model.specs.Inner.{joined, startsFrom, names}
 use Rattle.reason_model.proofs.ColumnNames.{name-above}

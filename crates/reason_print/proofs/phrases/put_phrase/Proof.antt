@@ -5,9 +5,9 @@ use Prim.Native.Nat.{ℕ}
 use native.Mathlib.Omega.{arith}
 use lib.ListN.{length}
 use lib.Seq.{sets}
-use Rattle.decimal.specs.Ascii.{ascii}
+use Rattle.decimal_model.specs.Ascii.{ascii}
 use Rattle.refusals.specs.Refusals.{conflictPlace}
-use Rattle.settings.specs.Columns.{twelve, table, columnAt}
+use Rattle.settings_model.specs.Columns.{twelve, table, columnAt}
 use Rattle.reason_model.specs.Reasons.{named, columnName, ruleOf, treePhrase, phraseOf}
 use Rattle.reason_model.specs.Reading.{sorts}
 use Rattle.reason_model.specs.Inner.{phraseAt, joined, startsFrom, phrases}

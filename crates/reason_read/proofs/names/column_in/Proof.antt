@@ -4,7 +4,7 @@ use Prim.Native.Nat.{suc, _-_, _≤_}
 use native.Mathlib.Omega.{arith}
 use native.Mathlib.Numerals.{add-one}
 use lib.ListN.{drop}
-use Rattle.settings.specs.Columns.{table}
+use Rattle.settings_model.specs.Columns.{table}
 use Rattle.reason_model.specs.declared.Match.the-variants.{At}
 use Rattle.reason_model.specs.Reading.{placeIn, columnFrom, unnamed, columnIn}
 use Rattle.reason_model.proofs.ColumnNames.{column-found, column-later, column-none}

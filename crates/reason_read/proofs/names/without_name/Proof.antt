@@ -2,7 +2,7 @@
 use mathlib.Core.Path.{refl}
 use native.Mathlib.Omega.{arith}
 use borrow.Author.Tests.{le-leb, lt-leb}
-use Rattle.settings.specs.Columns.{twelve, table}
+use Rattle.settings_model.specs.Columns.{twelve, table}
 use Rattle.reason_model.specs.Reasons.{named}
 use Rattle.reason_model.specs.Reading.{unnamed}
 use borrow.Author.Needs.{needs}

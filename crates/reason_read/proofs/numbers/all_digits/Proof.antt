@@ -4,8 +4,8 @@ use Prim.Native.Nat.{_-_, _≤_}
 use native.Mathlib.Omega.{arith}
 use lib.ListN.{length, drop, drop-of-length-le}
 use borrow.Author.Tests.{not-true, not-false}
-use Rattle.decimal.specs.Number.{digits}
-use Rattle.decimal.proofs.Spelling.{digits-step}
+use Rattle.decimal_model.specs.Number.{digits}
+use Rattle.decimal_model.proofs.Spelling.{digits-step}
 use borrow.Author.Needs.{needs}
 use Rattle.reason_read.proofs.numbers.all_digits.Statement.{statement}
 use Rattle.reason_read.proofs.numbers.all_digits.Tie as tie

@@ -5,7 +5,7 @@ use mathlib.Core.Bool.{_&&_, and-true, and-false}
 use lib.Dec.{leb}
 use lib.ListN.{length}
 use borrow.Author.Tests.{le-leb, lt-leb}
-use Rattle.decimal.specs.Number.{digits}
+use Rattle.decimal_model.specs.Number.{digits}
 use Rattle.reason_model.specs.Reading.{numeral}
 use borrow.Author.Needs.{needs}
 use Rattle.reason_read.proofs.numbers.is_numeral.Statement.{statement}

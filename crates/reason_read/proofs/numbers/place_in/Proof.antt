@@ -3,7 +3,7 @@ use mathlib.Core.Path.{_≡_, sym, ap, _∙_}
 use native.Mathlib.Omega.{arith}
 use borrow.Author.Tests.{not-true, not-false}
 use Rattle.reason_model.specs.declared.Match.the-variants.{At}
-use Rattle.decimal.specs.Number.{spelled}
+use Rattle.decimal_model.specs.Number.{spelled}
 use Rattle.reason_model.proofs.Words.{place-within, place-above, no-numeral}
 use borrow.Author.Needs.{needs}
 use Rattle.reason_read.proofs.numbers.place_in.Statement.{statement}

@@ -3,8 +3,8 @@ use mathlib.Core.Path.{_≡_, refl, sym, _∙_}
 use Prim.Native.Nat.{_+_, _-_, _^_, _≤_, min}
 use native.Mathlib.Omega.{arith}
 use lib.ListN.{length, drop, drop-of-length-le}
-use Rattle.decimal.specs.Number.{spelledAfter, spelled}
-use Rattle.decimal.proofs.Spelling.{spelled-step}
+use Rattle.decimal_model.specs.Number.{spelledAfter, spelled}
+use Rattle.decimal_model.proofs.Spelling.{spelled-step}
 use Rattle.reason_model.proofs.Words.{spelled-limited}
 use borrow.Author.Needs.{needs}
 use Rattle.reason_read.proofs.numbers.value_of.Statement.{statement}

@@ -3,10 +3,10 @@ use mathlib.Core.List.{[], _∷_}
 use Prim.Native.Nat.{_+_, _≤_}
 use native.Mathlib.Omega.{arith}
 use borrow.Author.Needs.{needs}
-use Rattle.decimal.specs.Decimal.{decimal}
-use Rattle.balanced.specs.Lines.{letter}
-use Rattle.report.specs.Text.{lineText}
-use Rattle.report.proofs.LineText.{line-columns}
+use Rattle.decimal_model.specs.Decimal.{decimal}
+use Rattle.row_model.specs.Lines.{letter}
+use Rattle.report_model.specs.Text.{lineText}
+use Rattle.report_model.proofs.LineText.{line-columns}
 use Rattle.buffer.proofs.Behind.{Put, put-one, put-behind, put-keeps}
 use Rattle.report.proofs.line.put_columns.Statement.{statement}
 use Rattle.report.proofs.line.put_columns.Tie as tie

@@ -2,7 +2,7 @@
 use mathlib.Core.List.{[], _∷_, _++_}
 use Prim.Native.Nat.{_+_}
 use native.Mathlib.Omega.{arith}
-use Rattle.report.specs.Text.{lineText}
+use Rattle.report_model.specs.Text.{lineText}
 use Rattle.buffer.proofs.Behind.{Put, byte-behind, put-keeps}
 use borrow.Author.Needs.{needs}
 use Rattle.report.proofs.line.put_ended.Statement.{statement}

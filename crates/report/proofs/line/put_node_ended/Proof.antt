@@ -2,10 +2,10 @@
 use mathlib.Core.List.{[], _∷_, _++_}
 use Prim.Native.Nat.{_+_}
 use native.Mathlib.Omega.{arith}
-use Rattle.report.specs.Text.{lineText}
-use Rattle.decimal.specs.Decimal.{decimal}
-use Rattle.report.specs.TreeText.{nodeText}
-use Rattle.report.proofs.LineText.{node-columns}
+use Rattle.report_model.specs.Text.{lineText}
+use Rattle.decimal_model.specs.Decimal.{decimal}
+use Rattle.report_model.specs.TreeText.{nodeText}
+use Rattle.report_model.proofs.LineText.{node-columns}
 use Rattle.buffer.proofs.Behind.{Put, put-behind, byte-behind, put-keeps}
 use borrow.Author.Needs.{needs}
 use Rattle.report.proofs.line.put_node_ended.Statement.{statement}

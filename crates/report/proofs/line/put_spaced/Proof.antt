@@ -3,8 +3,8 @@ use mathlib.Core.Path.{ap}
 use Prim.Native.Nat.{ℕ, _+_}
 use native.Mathlib.Omega.{arith}
 use borrow.Author.Needs.{needs}
-use Rattle.decimal.specs.Decimal.{decimal}
-use Rattle.decimal.proofs.Writing.{at-most-twenty}
+use Rattle.decimal_model.specs.Decimal.{decimal}
+use Rattle.decimal_model.proofs.Writing.{at-most-twenty}
 use Rattle.buffer.proofs.Behind.{put-one, put-behind}
 use Rattle.report.proofs.line.put_spaced.Statement.{statement}
 use Rattle.report.proofs.line.put_spaced.Tie as tie

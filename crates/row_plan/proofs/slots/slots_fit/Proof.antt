@@ -1,7 +1,7 @@
 -- `row_plan::slots::slots_fit` meets its contract. Assumes nothing.
 use borrow.Author.Needs.{needs}
 use Rattle.refusals.proofs.Answering.{verdict}
-use Rattle.balanced.specs.Checks.{usedFrom}
+use Rattle.row_model.specs.Checks.{usedFrom}
 use native.Mathlib.Omega.{arith}
 use Prim.Native.Nat.{suc, _-_, _≤_}
 use mathlib.Core.Path.{_≡_, sym, _∙_}

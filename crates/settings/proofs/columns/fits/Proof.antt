@@ -1,5 +1,5 @@
 -- `settings::columns::fits` meets its contract. Assumes nothing.
-use Rattle.settings.proofs.Ranges.{below-range, above-lowest}
+use Rattle.settings_model.proofs.Ranges.{below-range, above-lowest}
 use borrow.Author.Needs.{needs}
 use Rattle.settings.proofs.columns.fits.Statement.{statement}
 use Rattle.settings.proofs.columns.fits.Tie as tie

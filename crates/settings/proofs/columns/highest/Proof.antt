@@ -1,7 +1,7 @@
 -- `settings::columns::highest` meets its contract. Assumes nothing.
 use mathlib.Core.Path.{_≡_, refl}
 use native.Mathlib.Omega.{arith}
-use Rattle.settings.specs.Columns.{twelve, table, columnAt}
+use Rattle.settings_model.specs.Columns.{twelve, table, columnAt}
 use Rattle.settings.proofs.columns.highest.Statement.{statement}
 use Rattle.settings.proofs.columns.highest.Tie as tie
 

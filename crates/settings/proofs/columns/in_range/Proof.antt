@@ -1,8 +1,8 @@
 -- `settings::columns::in_range` meets its contract. Assumes nothing.
 use Rattle.refusals.proofs.Answering.{verdict}
-use Rattle.settings.proofs.Ranging.{ranged-out, ranged-in, ranged-all}
-use Rattle.settings.specs.Checks.{ranged}
-use Rattle.settings.specs.Columns.{table}
+use Rattle.settings_model.proofs.Ranging.{ranged-out, ranged-in, ranged-all}
+use Rattle.settings_model.specs.Checks.{ranged}
+use Rattle.settings_model.specs.Columns.{table}
 use lib.ListN.{drop}
 use borrow.Author.Tests.{not-true, not-false}
 use borrow.Author.Needs.{needs}

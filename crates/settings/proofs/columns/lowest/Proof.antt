@@ -1,8 +1,8 @@
 -- `settings::columns::lowest` meets its contract. Assumes nothing.
 use mathlib.Core.Path.{_≡_, refl}
 use native.Mathlib.Omega.{arith}
-use Rattle.settings.proofs.Ranges.{lowest-first, lowest-last}
-use Rattle.settings.specs.Columns.{twelve, table, columnAt}
+use Rattle.settings_model.proofs.Ranges.{lowest-first, lowest-last}
+use Rattle.settings_model.specs.Columns.{twelve, table, columnAt}
 use Rattle.settings.proofs.columns.lowest.Statement.{statement}
 use Rattle.settings.proofs.columns.lowest.Tie as tie
 

@@ -1,5 +1,5 @@
 -- `settings::odds::too_long` meets its contract. Assumes nothing.
-use Rattle.settings.proofs.Sums.{rest-passed}
+use Rattle.settings_model.proofs.Sums.{rest-passed}
 use borrow.Author.Tests.{lt-ltb}
 use mathlib.Core.Path.{sym}
 use Prim.Native.Nat.{_+_}

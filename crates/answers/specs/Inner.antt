@@ -1,9 +1,0 @@
--- The outcome of a row that was read, or refused while it was read. Assumes nothing: these are definitions.
-use Rattle.row.specs.declared.Row.{Row}
-use Rattle.row.specs.declared.Row.the-variants as row
-use Rattle.refusals.specs.Outcome.{Refused}
-use Rattle.balanced.specs.Outcome.{RowOutcome, outcomeOf}
-
-unfoldable pub readOutcome : Row → RowOutcome
-readOutcome (row.Read s) = outcomeOf s
-readOutcome (row.Refused r) = Refused r

@@ -1,0 +1,34 @@
+-- The examples of specs/Examples, computed. Assumes nothing.
+use mathlib.Core.Path.{refl}
+use Rattle.refusals.specs.Refusals.{numberOf, placeOf, conflictPlace}
+use Rattle.row_answer_model.specs.Examples as examples
+use Rattle.row_answer_model.specs.Examples.{Examples}
+use Rattle.row_answer_model.proofs.Computing.{answered}
+
+pub examples-hold : Examples
+unfolding answered numberOf placeOf conflictPlace examples.answered examples.asked examples.askedLossy examples.under
+examples-hold = record {
+  one = refl;
+  two = refl;
+  three = refl;
+  four = refl;
+  five = refl;
+  six = refl;
+  seven = refl;
+  planned = refl;
+  plannedAlone = refl;
+  twoUnderNames = refl;
+  oneBeforeTwo = refl;
+  twoBeforeThree = refl;
+  threeBeforeFour = refl;
+  fourBeforeFive = refl;
+  fiveBeforeSix = refl;
+  sixBeforeSeven = refl;
+  sevenAlone = refl;
+  lossless = refl;
+  oneFailure = refl;
+  twoFailures = refl;
+  lossBeforeFive = refl;
+  plannedLossy = refl;
+  lossUnderTwelve = refl;
+}

@@ -1,0 +1,73 @@
+-- The examples of specs/Examples, computed. Assumes nothing.
+use mathlib.Core.Path.{refl}
+use Rattle.decimal_model.specs.Ascii.{ascii}
+use Rattle.decimal_model.specs.Number.{digits, zeroLed, shaped, readable, spelledAfter}
+use Rattle.lines.specs.Text.{same, before, pieces, fields, joined}
+use Rattle.refusals.specs.Refusals.{conflictPlace, numberOf, placeOf}
+use Rattle.refusals.specs.Conditions.{firstBroken}
+use Rattle.settings_model.specs.Columns.{twelve, table}
+use Rattle.settings_model.specs.Checks.{valuesOf, ranged, atOdds, checks}
+use Rattle.row_read_model.specs.Names.{nameLine, headingOf, isOther, columnsUnder}
+use Rattle.row_read_model.specs.Rows.{named, written, valuesIn, settingsOf, conditions, rowUnder, namedRow}
+use Rattle.row_read_model.specs.Examples.{answered, under, asked, askedLossy, behind, behindLoss, Examples}
+
+pub examples-hold : Examples
+unfolding ascii digits zeroLed shaped readable spelledAfter before pieces fields joined twelve table nameLine same headingOf isOther columnsUnder conflictPlace numberOf placeOf firstBroken valuesOf ranged atOdds checks named written valuesIn settingsOf conditions rowUnder namedRow answered under asked askedLossy behind behindLoss
+examples-hold = record {
+  names = refl;
+  lossyNames = refl;
+  twelveNames = refl;
+  thirteenNames = refl;
+  emptyInput = refl;
+  otherNames = refl;
+  spaceAfterNames = refl;
+  rightNames = refl;
+  thirteenWithSpace = refl;
+  otherThirteenth = refl;
+  rightThirteen = refl;
+  thirteenUnderTwelve = refl;
+  twelveUnderThirteen = refl;
+  first = refl;
+  largest = refl;
+  firstLossy = refl;
+  largestLossy = refl;
+  leadingZero = refl;
+  nothing = refl;
+  leadingSpace = refl;
+  twoSpaces = refl;
+  fiveDigits = refl;
+  threeValues = refl;
+  threeAndSpace = refl;
+  elevenValues = refl;
+  letterBehind = refl;
+  returnBehind = refl;
+  tabBehind = refl;
+  feedBehind = refl;
+  spaceBehind = refl;
+  valueBehind = refl;
+  twelveOfThirteen = refl;
+  twelveAndSpace = refl;
+  lossLeadingZero = refl;
+  letterBehindLoss = refl;
+  nothingBehindLoss = refl;
+  spaceBehindLoss = refl;
+  valueBehindLoss = refl;
+  outside = refl;
+  twoBeforeThree = refl;
+  threeBeforeFour = refl;
+  lowestColumn = refl;
+  lossOutside = refl;
+  ackBeforeLoss = refl;
+  lossBeforeFour = refl;
+  superframeTooLong = refl;
+  noChildren = refl;
+  noDepth = refl;
+  noSensors = refl;
+  sinkTooDeep = refl;
+  sinkOnlyChild = refl;
+  frameTooLong = refl;
+  frameLongest = refl;
+  firstOfFour = refl;
+  unacknowledged = refl;
+  lossLast = refl;
+}

@@ -1,0 +1,98 @@
+-- The laws of specs/Laws. Assumes nothing.
+use mathlib.Core.Path.{_≡_, refl, ap, sym, _∙_, subst}
+use mathlib.Core.Bool.{Bool, true, false, false≢true}
+use mathlib.Core.List.{List, _++_}
+use Prim.Native.Nat.{ℕ}
+use lib.ListN.{length, take}
+use Rattle.lines.specs.Text.{fields, joined}
+use Rattle.lines.proofs.Joining.{joined-fields}
+use Rattle.refusals.specs.declared.Refusal.{Refusal}
+use Rattle.refusals.specs.declared.Verdict.the-variants.{Kept, Broken}
+use Rattle.refusals.specs.Conditions.{Condition, Unbroken}
+use Rattle.refusals.proofs.Unbroken.{unbroken-first, first-unbroken, unbroken-append, unbroken-left, unbroken-right}
+use Rattle.settings_model.specs.declared.Settings.{Settings}
+use Rattle.settings_model.specs.Checks.{valuesOf, checks}
+use Rattle.settings_model.specs.Laws.{Checked}
+use Rattle.settings_model.proofs.LawsHold.{unbroken-where-checked}
+use Rattle.row_read_model.specs.declared.Heading.{Heading}
+use Rattle.row_read_model.specs.declared.Row.{Row}
+use Rattle.row_read_model.specs.declared.Row.the-variants.{Read, Refused}
+use Rattle.row_read_model.specs.Names.{columnsUnder}
+use Rattle.row_read_model.specs.Rows.{named, written, valuesIn, settingsOf, conditions, rowUnder}
+use Rattle.row_read_model.specs.Laws.{ReadWhereUnbroken, ReadIsChecked, CheckedIsRead, OneRowForSettings}
+use Rattle.row_read_model.proofs.RowCases.{values-length}
+use Rattle.row_read_model.proofs.Elements.{values-of-settings}
+use Rattle.row_read_model.proofs.OneText.{same-values}
+
+-- a row that is refused is not read, and one that is read is read as one thing
+refused-read : (s : Settings) (r : Refusal) → Refused r ≡ Read s → ⊥
+refused-read s r e = false≢true (ap read e) where
+  read : Row → Bool
+  read (Read x) = true
+  read (Refused x) = false
+
+read-once : (x s : Settings) → Read x ≡ Read s → x ≡ s
+read-once x s e = ap settings e where
+  settings : Row → Settings
+  settings (Read y) = y
+  settings (Refused r) = x
+
+pub read-where-unbroken : ReadWhereUnbroken
+unfolding rowUnder
+read-where-unbroken heading row s = (
+  λ e.
+      (let h = first-unbroken Refused (Read (settingsOf (valuesIn row))) (Read s) (refused-read s) (conditions heading row) e in
+      (h .0, read-once (settingsOf (valuesIn row)) s (h .1))),
+  λ h. unbroken-first Refused (Read (settingsOf (valuesIn row))) (conditions heading row) (h .0) ∙ ap Read (h .1),
+)
+
+-- the parts of a row's conditions
+module _ (heading : Heading) (row : List ℕ) where
+  abbrev of-text : List (Condition Refusal)
+  of-text = written 1 (columnsUnder heading) (fields row)
+
+  abbrev of-settings : List (Condition Refusal)
+  of-settings = checks (settingsOf (valuesIn row))
+
+  module _ (u : Unbroken (conditions heading row)) where
+    is-written : Unbroken (written 1 (columnsUnder heading) (fields row))
+    unfolding conditions
+    is-written = unbroken-left of-text of-settings (unbroken-right (named heading) (of-text ++ of-settings) u)
+
+    is-checked : Checked (settingsOf (valuesIn row))
+    unfolding conditions
+    is-checked =
+        unbroken-where-checked (settingsOf (valuesIn row)) .0 (unbroken-right of-text of-settings (unbroken-right (named heading) (of-text ++ of-settings) u))
+
+pub read-is-checked : ReadIsChecked
+read-is-checked heading row s e =
+    let h = read-where-unbroken heading row s .0 e in
+    subst Checked (h .1) (is-checked heading row (h .0))
+
+pub checked-is-read : CheckedIsRead
+unfolding conditions
+checked-is-read heading row n w k =
+    let s = settingsOf (valuesIn row) in
+    read-where-unbroken heading row s .1 (
+      unbroken-append (named heading) (of-text heading row ++ checks s) n (unbroken-append (of-text heading row) (checks s) w (unbroken-where-checked s .1 k)),
+      refl,
+    )
+
+-- a row that is written has as many values as there are columns
+all-values : (heading : Heading) (row : List ℕ) → Unbroken (written 1 (columnsUnder heading) (fields row)) → length (valuesIn row) ≡ length (columnsUnder heading)
+all-values heading row u = values-length heading row (unbroken-first Broken Kept (written 1 (columnsUnder heading) (fields row)) u)
+
+-- the same settings have the same values
+same-numbers : (heading : Heading) (vs ws : List ℕ) → length vs ≡ length (columnsUnder heading) → length ws ≡ length (columnsUnder heading) → settingsOf vs ≡ settingsOf ws → vs ≡ ws
+same-numbers heading vs ws l k e =
+    sym (values-of-settings heading vs l) ∙ ap (λ (s : Settings). take (length (columnsUnder heading)) (valuesOf s)) e ∙ values-of-settings heading ws k
+
+pub one-row-for-settings : OneRowForSettings
+unfolding valuesIn
+one-row-for-settings heading a b s p q =
+    let g = read-where-unbroken heading a s .0 p in
+    let h = read-where-unbroken heading b s .0 q in
+    let u = is-written heading a (g .0) in
+    let w = is-written heading b (h .0) in
+    let v = same-numbers heading (valuesIn a) (valuesIn b) (all-values heading a u) (all-values heading b w) (g .1 ∙ sym (h .1)) in
+    sym (joined-fields a) ∙ ap joined (same-values 1 (columnsUnder heading) (fields a) (fields b) u w v) ∙ joined-fields b

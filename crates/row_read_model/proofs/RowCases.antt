@@ -1,0 +1,62 @@
+-- What a row is, by the verdicts on number 2 and on its settings. Assumes nothing.
+use mathlib.Core.Path.{_≡_, refl, ap, sym, _∙_}
+use mathlib.Core.Bool.{Bool, true, false, not, cond}
+use mathlib.Core.List.{List, [], _∷_, _++_}
+use Prim.Native.Nat.{ℕ, suc}
+use lib.ListN.{length, length-map}
+use Rattle.decimal_model.specs.Number.{readable, spelled}
+use Rattle.lines.specs.Text.{fields}
+use Rattle.refusals.specs.declared.Refusal.{Refusal}
+use Rattle.refusals.specs.declared.Refusal.the-variants.{Names, Unreadable, TextAfter}
+use Rattle.refusals.specs.declared.Verdict.the-variants.{Kept, Broken}
+use Rattle.refusals.specs.Conditions.{firstBroken}
+use Rattle.refusals.proofs.Answering.{verdict, broken-kept, answer-broken, answer-kept, first-part-answers, second-part-answers}
+use Rattle.settings_model.specs.Columns.{Column}
+use Rattle.settings_model.specs.Checks.{checks}
+use Rattle.row_read_model.specs.declared.Row.the-variants.{Read, Refused}
+use Rattle.row_read_model.specs.declared.Heading.{Heading}
+use Rattle.row_read_model.specs.Names.{isOther, columnsUnder}
+use Rattle.row_read_model.specs.Rows.{named, written, valuesIn, settingsOf, conditions, rowUnder}
+
+-- where number 2 is kept, there are as many values as columns
+pub written-length : (k : ℕ) (cs : List Column) (fs : List (List ℕ)) → verdict (written k cs fs) ≡ Kept → length fs ≡ length cs
+unfolding written firstBroken
+written-length k [] [] e = refl
+written-length k [] (f ∷ fs) e = broken-kept (TextAfter k) e
+written-length k (c ∷ cs) [] e = broken-kept (Unreadable k) e
+written-length k (c ∷ cs) (f ∷ fs) e = by (readable f) e (written-length (suc k) cs fs) where
+  by : (b : Bool) → cond (not b) (Broken (Unreadable k)) (verdict (written (suc k) cs fs)) ≡ Kept
+      → (verdict (written (suc k) cs fs) ≡ Kept → length fs ≡ length cs) → suc (length fs) ≡ suc (length cs)
+  by true g f = ap suc (f g)
+  by false g f = broken-kept (Unreadable k) g
+
+module _ (heading : Heading) (row : List ℕ) where
+  abbrev cs : List Column
+  cs = columnsUnder heading
+
+  pub values-length : verdict (written 1 (columnsUnder heading) (fields row)) ≡ Kept → length (valuesIn row) ≡ length (columnsUnder heading)
+  unfolding valuesIn
+  values-length e = length-map (fields row) spelled ∙ written-length 1 cs (fields row) e
+
+  -- under other names
+  pub row-unnamed : isOther heading ≡ true → Refused Names ≡ rowUnder heading row
+  unfolding rowUnder conditions named firstBroken
+  row-unnamed e = rw e
+
+  module _ (n : isOther heading ≡ false) where
+    by-names : firstBroken Refused (Read (settingsOf (valuesIn row))) (written 1 cs (fields row) ++ checks (settingsOf (valuesIn row))) ≡ rowUnder heading row
+    unfolding rowUnder conditions named firstBroken
+    by-names = rw n
+
+    pub row-unwritten : (x : Refusal) → verdict (written 1 (columnsUnder heading) (fields row)) ≡ Broken x → Refused x ≡ rowUnder heading row
+    row-unwritten x e = first-part-answers Refused _ (written 1 cs (fields row)) _ x e ∙ by-names
+
+    module _ (w : verdict (written 1 (columnsUnder heading) (fields row)) ≡ Kept) where
+      by-checks : firstBroken Refused (Read (settingsOf (valuesIn row))) (checks (settingsOf (valuesIn row))) ≡ rowUnder heading row
+      by-checks = second-part-answers Refused _ (written 1 cs (fields row)) _ w ∙ by-names
+
+      pub row-unchecked : (x : Refusal) → verdict (checks (settingsOf (valuesIn row))) ≡ Broken x → Refused x ≡ rowUnder heading row
+      row-unchecked x e = sym (answer-broken Refused _ (checks (settingsOf (valuesIn row))) x e) ∙ by-checks
+
+      pub row-read : verdict (checks (settingsOf (valuesIn row))) ≡ Kept → Read (settingsOf (valuesIn row)) ≡ rowUnder heading row
+      row-read e = sym (answer-kept Refused _ (checks (settingsOf (valuesIn row))) e) ∙ by-checks

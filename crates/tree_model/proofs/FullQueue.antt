@@ -1,0 +1,153 @@
+-- The queue that is filled to BUFFER, without and with loss (specs/Witness). Assumes nothing.
+use mathlib.Core.Path.{_≡_, refl, subst}
+use mathlib.Core.Bool.{Bool, true, false, cond, _&&_}
+use mathlib.Core.List.{List, [], _∷_}
+use Prim.Native.Nat.{ℕ, zero, suc, _+_, _≤_, _<_}
+use native.Mathlib.Omega.{arith}
+use lib.Dec.{eqb, lit<, lit≤}
+use lib.ListN.{length}
+use Rattle.network.specs.Counting.{total, bit, none, each}
+use Rattle.network.specs.Model.{Network, queue}
+use Rattle.network.specs.Readings.{made}
+use Rattle.network.specs.Loads.{Linked}
+use Rattle.network.specs.Oracle.{run}
+use Rattle.network.specs.Examples.{reading, first, received}
+use Rattle.network.proofs.Sums.{total-ap, total-add, total-zero}
+use Rattle.row_model.specs.declared.Kind.the-variants.{EndNode, Sink}
+use Rattle.row_model.specs.Witness.{columns, soonFrom}
+use Rattle.row_model.proofs.Stretches.{stretch}
+use Rattle.row_model.proofs.Witnesses.{soon-made, soon-few}
+use Rattle.tree_model.specs.declared.NodeLine.{NodeLine}
+use Rattle.tree_model.specs.Beside.{beside}
+use Rattle.tree_model.specs.Lines.{lines}
+use Rattle.tree_model.specs.Promise.{printed, networkOf, Windows, Readings}
+use Rattle.tree_model.specs.Laws.{Surveyed}
+use Rattle.tree_model.specs.Examples.{nodeColumns, table}
+use Rattle.tree_model.specs.Witness.{shortest, pair, pairNetwork, fullReadings, Filled, lossy, lossyNetwork, lossyReadings, Lossy}
+use Rattle.tree_model.proofs.Computing.{trees, runs, printed-line}
+
+-- to unfold `witness` is to unfold all that it is computed with
+witness : Type 0
+unfolding trees runs columns nodeColumns table shortest pair pairNetwork soonFrom fullReadings lossy lossyNetwork lossyReadings
+witness = Unit
+
+two : (P : ℕ → Type 0) → P 0 → P 1 → (i : ℕ) → i < 2 → P i
+two P a b zero h = a
+two P a b (suc zero) h = b
+two P a b (suc (suc i)) h = absurd (omega arith)
+
+pair-surveyed : Surveyed pair 1
+unfolding pair
+pair-surveyed = record {
+  planted = record {
+    few = lit≤ tt;
+    root = refl;
+    some = λ v h most. node (λ v. 2 ≤ v → 1 ≤ pair .parent v) (λ h. absurd (omega arith)) (λ h. lit≤ tt) v (omega arith) most h;
+    smaller = node _ (lit< tt) (lit< tt);
+  };
+  ranged = record { bursts = node _ (lit≤ tt) (lit≤ tt); rates = node _ (lit≤ tt) (lit≤ tt); both = node _ (λ z. refl) (λ z. absurd (omega (arith, z))) };
+  sinkSome = lit≤ tt;
+  sinkKnown = lit≤ tt;
+}
+  where
+    node : (P : ℕ → Type 0) → P 1 → P 2 → (v : ℕ) → 1 ≤ v → v ≤ 2 → P v
+    node P a b zero one most = absurd (omega arith)
+    node P a b (suc i) one most = two (λ i. P (suc i)) a b i (omega arith)
+
+pair-linked : (P : ℕ → Type 0) → P 0 → P 1 → (N : Network) → N .nodes ≡ 2 → (i : ℕ) → Linked N i → P i
+pair-linked P a b N e i L = two P a b i (omega (arith, L .node))
+
+pair-windows : Windows shortest (lines shortest pair 1) pairNetwork (λ i. 0)
+unfolding witness
+pair-windows = pair-linked _ (lit≤ tt) (lit≤ tt) pairNetwork refl
+
+-- in n symbols one after another the end node makes as many of three frames as lie there
+pair-total : (a x n : ℕ) → total (λ j. made (soonFrom a) (x + j) 1) n ≡ stretch a x n + (stretch (a + 479) x n + stretch (a + 959) x n)
+unfolding stretch
+pair-total a x n = omega (
+  arith,
+  total-ap (λ j. made (soonFrom a) (x + j) 1) (λ j. bit (eqb a (x + j)) + (bit (eqb (a + 479) (x + j)) + bit (eqb (a + 959) (x + j)))) n (λ j h. soon-made a (x + j)),
+  total-add (λ j. bit (eqb a (x + j))) (λ j. bit (eqb (a + 479) (x + j)) + bit (eqb (a + 959) (x + j))) n,
+  total-add (λ j. bit (eqb (a + 479) (x + j))) (λ j. bit (eqb (a + 959) (x + j))) n,
+)
+
+-- the root makes none
+root-made : (a t : ℕ) → made (soonFrom a) t 0 ≡ 0
+unfolding made soonFrom reading
+root-made a t = omega (arith, never (eqb a t), never (eqb (a + 479) t), never (eqb (a + 959) t))
+  where
+    never : (b : Bool) → cond {A = ℕ} (b && false) 1 0 ≡ 0
+    never true = refl
+    never false = refl
+
+root-total : (a x n : ℕ) → total (λ j. made (soonFrom a) (x + j) 0) n ≡ 0
+root-total a x n = omega (arith, total-ap (λ j. made (soonFrom a) (x + j) 0) (λ j. 0) n (λ j h. root-made a (x + j)), total-zero n)
+
+pair-stretches : (P : ℕ → ℕ → ℕ → Type 0) → ((x n : ℕ) → P 0 x n) → ((x n : ℕ) → P 1 x n) → (i x n : ℕ) → i < 2 → P i x n
+pair-stretches P a b i x n h = two (λ i. P i x n) (a x n) (b x n) i h
+
+pub pair-readings : (head payload ack loss a : ℕ) → Readings (beside 0 0 head payload ack loss) pair (soonFrom a)
+unfolding trees pair soonFrom reading
+pair-readings head payload ack loss a = record {
+  sensors = each (lit< tt) (each (lit< tt) (each (lit< tt) none));
+  bucket = pair-stretches _ (λ x n. omega (arith, root-total a x n)) (λ x n. omega (arith, pair-total a x n, soon-few a x n));
+}
+
+pair-plan : List NodeLine
+pair-plan = printed-line Sink 0 2 2880 0 0 0 3 0 0 ∷ printed-line EndNode 1 2 960 2 2 960 3 1440 1440 ∷ []
+
+pair-plan-is : pair-plan ≡ lines shortest pair 1
+unfolding witness pair-plan printed-line
+pair-plan-is = refl
+
+pair-full : length (queue (run (networkOf shortest pair-plan pair 1 (λ i. 0)) fullReadings first 1020) 1) ≡ printed pair-plan 1 .buffer .0
+unfolding witness pair-plan printed-line
+pair-full = refl
+
+pair-arrived : received (networkOf shortest pair-plan pair 1 (λ i. 0)) fullReadings first 1020 ≡ 1 ∷ 60 ∷ 1020 ∷ []
+unfolding witness pair-plan printed-line
+pair-arrived = refl
+
+pub filled : Filled
+unfolding witness
+filled = record {
+  surveyed = pair-surveyed;
+  planned = refl;
+  columns = refl;
+  windowsFit = pair-windows;
+  keepBuckets = pair-readings 17 1 0 0 60;
+  full = subst (λ p. length (queue (run (networkOf shortest p pair 1 (λ i. 0)) fullReadings first 1020) 1) ≡ printed p 1 .buffer .0) pair-plan-is pair-full;
+  arrived = subst (λ p. received (networkOf shortest p pair 1 (λ i. 0)) fullReadings first 1020 ≡ 1 ∷ 60 ∷ 1020 ∷ []) pair-plan-is pair-arrived;
+}
+
+-- ---- with loss
+
+lossy-windows : Windows lossy (lines lossy pair 1) lossyNetwork (λ i. 0)
+unfolding witness
+lossy-windows = pair-linked _ (lit≤ tt) (lit≤ tt) lossyNetwork refl
+
+lossy-plan : List NodeLine
+lossy-plan = printed-line Sink 0 2 2880 0 0 0 3 0 0 ∷ printed-line EndNode 1 2 960 6 2 960 3 1440 1440 ∷ []
+
+lossy-plan-is : lossy-plan ≡ lines lossy pair 1
+unfolding witness lossy-plan printed-line
+lossy-plan-is = refl
+
+lossy-full : length (queue (run (networkOf lossy lossy-plan pair 1 (λ i. 0)) lossyReadings first 1120) 1) ≡ printed lossy-plan 1 .buffer .0
+unfolding witness lossy-plan printed-line
+lossy-full = refl
+
+lossy-arrived : received (networkOf lossy lossy-plan pair 1 (λ i. 0)) lossyReadings first 1120 ≡ 1 ∷ 160 ∷ 1120 ∷ []
+unfolding witness lossy-plan printed-line
+lossy-arrived = refl
+
+pub lossy-holds : Lossy
+unfolding witness
+lossy-holds = record {
+  planned = refl;
+  columns = refl;
+  windowsFit = lossy-windows;
+  keepBuckets = pair-readings 5 1 1 1 160;
+  full = subst (λ p. length (queue (run (networkOf lossy p pair 1 (λ i. 0)) lossyReadings first 1120) 1) ≡ printed p 1 .buffer .0) lossy-plan-is lossy-full;
+  arrived = subst (λ p. received (networkOf lossy p pair 1 (λ i. 0)) lossyReadings first 1120 ≡ 1 ∷ 160 ∷ 1120 ∷ []) lossy-plan-is lossy-arrived;
+}

@@ -1,0 +1,70 @@
+-- What holds of surveyed trees' plans: demands 2 and 3 as short statements. Assumes nothing: these are statements; proofs/LawsHold proves
+-- them.
+use mathlib.Core.Path.{_≡_}
+use mathlib.Core.Logic.{_↔_}
+use mathlib.Core.Bool.{false}
+use mathlib.Core.List.{List}
+use Prim.Native.Nat.{ℕ, _≤_, _<_, _^_}
+use Rattle.superframe_model.specs.Reservation.{Smallest}
+use Rattle.network.specs.Counting.{All}
+use Rattle.links.specs.declared.Load.{Load}
+use Rattle.settings_model.specs.declared.Settings.{Settings}
+use Rattle.settings_model.specs.Laws.{Checked}
+use Rattle.row_model.specs.declared.Kind.the-variants.{Sink}
+use Rattle.row_model.specs.Times.{timingOf}
+use Rattle.row_model.specs.Checks.{superframes}
+use Rattle.row_model.specs.Lines.{sameKind}
+use Rattle.tree_model.specs.declared.NodeLine.{NodeLine}
+use Rattle.tree_model.specs.Tree.{Tree, Planted, Ranged, routers}
+use Rattle.tree_model.specs.Lines.{loadAt, lines}
+use Rattle.tree_model.specs.Checks.{reservationsAt, usedAt, reservableAt}
+use Rattle.refusals.specs.Outcome.{Planned}
+use Rattle.tree_model.specs.Outcome.{outcomeOf}
+use Rattle.tree_model.specs.Promise.{networkOf, Windows, Keeps}
+
+-- a tree that keeps number 10: its node list keeps every rule, and the sink is one of its nodes
+pub record Surveyed (t : Tree) (sink : ℕ) : Type 0 where
+  pub planted : Planted t
+  pub ranged : Ranged t
+  pub sinkSome : 1 ≤ sink
+  pub sinkKnown : sink ≤ t .nodes
+
+-- ---- demand 2
+
+-- numbers 3 to 7 as propositions
+pub record Plannable (b : Settings) (t : Tree) (sink : ℕ) : Type 0 where
+  pub checked : Checked b
+  pub routers : routers t ≤ superframes b
+  pub reservations : (r : ℕ) → 1 ≤ r → r ≤ t .nodes → reservationsAt b t sink r ≤ 7
+  pub used : (r : ℕ) → 1 ≤ r → r ≤ t .nodes → usedAt b t sink r .0 ≤ reservableAt b t sink r .0
+
+-- planned exactly where all conditions hold, and then with the lines of the recurrences
+abbrev pub PlannedExactly : Type 0
+PlannedExactly = (b : Settings) (t : Tree) (sink : ℕ) (p : List NodeLine)
+    → (outcomeOf b t sink ≡ Planned p) ↔ (Plannable b t sink × (lines b t sink ≡ p))
+
+-- "no reservation has a slot more than its rate needs": on every line but the sink's SLOTS is the smallest count that holds RATE, also where
+-- RATE is 0
+abbrev pub NoSlotTooMany : Type 0
+NoSlotTooMany = (b : Settings) (t : Tree) (sink : ℕ) (p : List NodeLine) → outcomeOf b t sink ≡ Planned p
+    → All (λ l. sameKind (l .line .kind) Sink ≡ false → Smallest (l .line .figures .rate) (timingOf b .slot) (timingOf b .exchange) (l .line .figures .slots)) p
+
+-- the bound on every load, also of a tree that 5 or 7 refuses: the rate is at most that of all sensors together, the burst below 2^53
+pub record Bounded (a : Load) : Type 0 where
+  pub rate : a .rate .0 ≤ 1040130
+  pub burst : a .burst .0 < 2 ^ 53
+
+abbrev pub EveryLoadBounded : Type 0
+EveryLoadBounded = (b : Settings) (t : Tree) (sink : ℕ) → Checked b → Surveyed t sink
+    → (v : ℕ) → 1 ≤ v → v ≤ t .nodes → Bounded (loadAt b t sink v)
+
+-- ---- demand 3
+
+-- every planned tree keeps its promise
+abbrev pub EveryPlanKeeps : Type 0
+EveryPlanKeeps = (b : Settings) (t : Tree) (sink : ℕ) (p : List NodeLine) → Surveyed t sink → outcomeOf b t sink ≡ Planned p → Keeps b t sink p
+
+-- it is a promise about something: all windows fit, each for instance at the interval's start
+abbrev pub WindowsExist : Type 0
+WindowsExist = (b : Settings) (t : Tree) (sink : ℕ) (p : List NodeLine) → Surveyed t sink → outcomeOf b t sink ≡ Planned p
+    → Windows b p (networkOf b p t sink (λ i. 0)) (λ i. 0)

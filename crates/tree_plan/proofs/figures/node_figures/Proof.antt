@@ -1,0 +1,21 @@
+-- `tree_plan::figures::node_figures` meets its contract. Assumes nothing.
+use Rattle.tree_plan.proofs.Figuring.{figures-at-sink, figures-elsewhere}
+use borrow.Author.Needs.{needs}
+use Rattle.tree_plan.proofs.figures.node_figures.Statement.{statement}
+use Rattle.tree_plan.proofs.figures.node_figures.Tie as tie
+
+sink-figures-requires : tie.Need-sink-figures-requires
+sink-figures-requires c κs = search needs
+
+returns : tie.Need-returns
+returns c = let a = c .before .before .args in figures-at-sink (a .t) (a .sink) (a .v) (a .load) _ (c .before .if1 .taken) (c .sink-figures .ensures)
+
+link-figures-requires : tie.Need-link-figures-requires
+link-figures-requires c κs = c .before .pre
+
+returns-2 : tie.Need-returns-2
+returns-2 c = let a = c .before .before .args in figures-elsewhere (a .t) (a .sink) (a .v) (a .load) _ (c .before .if1 .left) (c .link-figures .ensures)
+
+pub node-figures-spec : {M : Type 1} → statement M
+node-figures-spec =
+    tie.close (tie.spec sink-figures-requires returns link-figures-requires returns-2)

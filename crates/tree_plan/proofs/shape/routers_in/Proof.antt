@@ -1,0 +1,67 @@
+-- `tree_plan::shape::routers_in` meets its contract. Assumes nothing.
+use mathlib.Core.Path.{_≡_, refl, sym, _∙_}
+use Prim.Native.Nat.{_-_, _≤_}
+use native.Mathlib.Omega.{arith}
+use lib.ListN.{length}
+use Rattle.network.specs.Counting.{bit}
+use Rattle.tree_model.specs.Tree.{sumTo, isRouter, routers}
+use Rattle.tree_model.proofs.Shapes.{counted, not-counted}
+use Rattle.tree_plan.specs.Inner.{shape}
+use borrow.Author.Needs.{needs}
+use Rattle.tree_plan.proofs.shape.routers_in.Statement.{statement}
+use Rattle.tree_plan.proofs.shape.routers_in.Tie as tie
+
+abbrev Inv-loop : tie.InvT-loop
+Inv-loop parents count₀ v₀ count v = (v ≤ length parents - 1) × (count ≤ v) × (count ≡ sumTo (λ u. bit (isRouter (shape parents) u)) v)
+
+abbrev μ-loop : tie.MeasureT-loop
+μ-loop parents count₀ v₀ count v = length parents - 1 - v
+
+loop-holds : tie.Need-loop-holds Inv-loop μ-loop
+unfolding sumTo
+loop-holds c = (omega arith, omega arith, refl)
+
+sub-loop : tie.Need-sub-loop Inv-loop μ-loop
+sub-loop c = search needs
+
+add-v : tie.Need-add-v Inv-loop μ-loop
+add-v c = omega (arith, c .before .before .before .pre .1)
+
+is-router-requires : tie.Need-is-router-requires Inv-loop μ-loop
+is-router-requires c κs = c .before .before .before .pre
+
+add-count : tie.Need-add-count Inv-loop μ-loop
+add-count c = omega (arith, c .before .before .before .loop .inv .0, c .before .before .before .loop .inv .1, c .before .before .before .before .before .pre .1)
+
+loop-less : tie.Need-loop-less Inv-loop μ-loop
+loop-less c = omega (arith, c .before .before .loop-test .taken)
+
+loop-again : tie.Need-loop-again Inv-loop μ-loop
+loop-again c = (omega (arith, c .before .before .loop-test .taken), omega (arith, c .before .before .before .loop .inv .1), counted (isRouter (shape (c .before .before .before .before .before .args .parents .now))) _ _ (c .before .before .before .loop .inv .2) (sym (c .before .is-router .ensures) ∙ c .if1 .taken))
+
+loop-less-2 : tie.Need-loop-less-2 Inv-loop μ-loop
+loop-less-2 c = omega (arith, c .before .before .loop-test .taken)
+
+loop-again-2 : tie.Need-loop-again-2 Inv-loop μ-loop
+loop-again-2 c = (omega (arith, c .before .before .loop-test .taken), omega (arith, c .before .before .before .loop .inv .1), not-counted (isRouter (shape (c .before .before .before .before .before .args .parents .now))) _ _ (c .before .before .before .loop .inv .2) (sym (c .before .is-router .ensures) ∙ c .if1 .left))
+
+returns : tie.Need-returns Inv-loop μ-loop
+unfolding routers
+returns c = let z : c .before .loop .v ≡ length (c .before .before .before .args .parents .now) - 1 = omega (arith, c .before .loop .inv .0, c .loop-test .left) in rw z at (c .before .loop .inv .2)
+
+pub routers-in-spec : {M : Type 1} → statement M
+routers-in-spec =
+    tie.close
+    (tie.spec
+    Inv-loop
+    μ-loop
+    loop-holds
+    sub-loop
+    add-v
+    is-router-requires
+    add-count
+    loop-less
+    loop-again
+    loop-less-2
+    loop-again-2
+    returns)
