@@ -1,12 +1,13 @@
 -- The answer as a whole: numbers 3 to 6, then 7, then the plan; and demand 3 of it. Assumes nothing.
-use mathlib.Core.Path.{_≡_, sym, ap, _∙_, subst}
+use mathlib.Core.Path.{_≡_, refl, sym, ap, _∙_, subst}
 use mathlib.Core.List.{_++_}
 use Prim.Native.Nat.{suc}
 use borrow.Author.Tests.{ltb-false}
 use Rattle.refusals.specs.declared.Refusal.{Refusal}
+use Rattle.refusals.specs.declared.Verdict.{Verdict}
 use Rattle.refusals.specs.declared.Verdict.the-variants.{Kept, Broken}
 use Rattle.refusals.specs.Conditions.{Unbroken}
-use Rattle.refusals.proofs.Answering.{verdict, answer-broken, answer-kept, first-part-answers, second-part-answers}
+use Rattle.refusals.proofs.Answering.{verdict, broken-kept, answer-broken, answer-kept, first-part-answers, second-part-answers}
 use Rattle.refusals.proofs.Unbroken.{kept-unbroken, unbroken-left, unbroken-right}
 use Rattle.settings_model.specs.declared.Settings.{Settings}
 use Rattle.settings_model.specs.Checks.{checks}
@@ -65,6 +66,13 @@ module _ (s : Settings) where
   pub before-slots-kept : verdict (checksBeforeSlots s) ≡ Kept → verdict (usedFrom s (suc (s .h)) 0) ≡ verdict (conditions s)
   unfolding conditions checksBeforeSlots
   before-slots-kept e = second-part-answers Broken Kept (checksBeforeSlots s) (usedFrom s (suc (s .h)) 0) e
+
+  -- settings that keep all conditions keep numbers 3 to 6
+  pub kept-before-slots : verdict (conditions s) ≡ Kept → verdict (checksBeforeSlots s) ≡ Kept
+  kept-before-slots e = by (verdict (checksBeforeSlots s)) refl where
+    by : (v : Verdict) → verdict (checksBeforeSlots s) ≡ v → verdict (checksBeforeSlots s) ≡ Kept
+    by Kept q = q
+    by (Broken r) q = broken-kept r (before-slots-broken r q ∙ e)
 
   -- ---- the plan
 

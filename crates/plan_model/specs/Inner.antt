@@ -10,7 +10,9 @@ use Rattle.links.specs.declared.Load.{Load}
 use Rattle.links.specs.declared.Timing.{Timing}
 use Rattle.links.specs.Link.{load, plus, times, afterLink, reservationOf}
 use Rattle.refusals.specs.declared.Refusal.{Refusal}
-use Rattle.refusals.specs.Conditions.{Condition}
+use Rattle.refusals.specs.declared.Verdict.{Verdict}
+use Rattle.refusals.specs.declared.Verdict.the-variants.{Kept, Broken}
+use Rattle.refusals.specs.Conditions.{Condition, firstBroken}
 use Rattle.settings_model.specs.declared.Settings.{Settings}
 use Rattle.settings_model.specs.Checks.{checks}
 use Rattle.plan_model.specs.declared.Link.{Link}
@@ -94,3 +96,15 @@ joined near below n down = plus (plus near (times n below)) down
 -- numbers 3 to 6
 unfoldable pub checksBeforeSlots : Settings → List (Condition Refusal)
 checksBeforeSlots s = checks s ++ reservations s ++ routersFit s
+
+-- ---- what is answered and left in two lent tables
+
+-- refused settings have no links
+unfoldable pub noLinks : Verdict → Links
+noLinks v = record { verdict = v; interval = symbols 0; end = noLink; arriving = noLoad }
+
+-- by the verdict on numbers 3 to 6: where they are kept, the tables hold the row's links, also where number 7 refuses it; else there are no
+-- links, and every number is as it was
+pub record LinksLeft (s : Settings) (l : Links) (up up' down down' : List ℕ) : Type 0 where
+  pub kept : firstBroken Broken Kept (checksBeforeSlots s) ≡ Kept → LinksHeld s l up' down'
+  pub refused : (r : Refusal) → firstBroken Broken Kept (checksBeforeSlots s) ≡ Broken r → (l ≡ noLinks (Broken r)) × (up' ≡ up) × (down' ≡ down)

@@ -6,7 +6,7 @@ ghost use mathlib.Core.Path.{_≡_};
 ghost use Rattle.refusals.specs.declared.Verdict.the-variants.{Kept, Broken};
 ghost use Rattle.refusals.specs.Conditions.{firstBroken};
 ghost use Rattle.row_model.specs.Bounds.{Sound};
-ghost use Rattle.plan_model.specs.Inner.{LinksHeld, checksBeforeSlots};
+ghost use Rattle.plan_model.specs.Inner.{LinksHeld, LinksLeft, noLinks, checksBeforeSlots};
 use crate::loads::downward_links;
 use crate::loads::link_for;
 use crate::loads::near_load;
@@ -25,10 +25,11 @@ use settings_model::Settings;
 pub mod table; // the links of the depths
 mod loads; // the load and the reservation of every link, from depth H to the root and on to the sink
 
-// Numbers 3 to 6 of any settings, and where they are kept the row's links: in two lent tables the upward and the downward ones.
+// Numbers 3 to 6 of any settings, and where they are kept the row's links: in two lent tables the upward and the downward ones. Refused
+// settings leave every number of the tables as it was.
 pub fn links_of(s: Settings, up: &mut [u64; 65], down: &mut [u64; 65]) -> Links
     ensures { λ r. ⌜ r .verdict ≡ firstBroken Broken Kept (checksBeforeSlots s) ⌝ }
-    ensures { λ r. ⌜ (r .verdict ≡ Kept → LinksHeld s r (now (up .exit)) (now (down .exit))) ⌝ }
+    ensures { λ r. ⌜ LinksLeft s r (now (up .entry)) (now (up .exit)) (now (down .entry)) (now (down .exit)) ⌝ }
 {
     let verdict = check_before_slots(s);
     if let Verdict::Broken(_) = verdict {
@@ -39,7 +40,7 @@ pub fn links_of(s: Settings, up: &mut [u64; 65], down: &mut [u64; 65]) -> Links
 
 // Refused settings have no links.
 fn unlinked(verdict: Verdict) -> Links
-    ensures { λ r. ⌜ r .verdict ≡ verdict ⌝ }
+    ensures { λ r. ⌜ r ≡ noLinks verdict ⌝ }
 {
     let interval = Symbols(0);
     let end = no_link();

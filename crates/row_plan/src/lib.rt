@@ -6,7 +6,7 @@ ghost use mathlib.Core.Path.{_≡_};
 ghost use Rattle.refusals.specs.declared.Verdict.the-variants.{Kept, Broken};
 ghost use Rattle.refusals.specs.Conditions.{firstBroken};
 ghost use Rattle.row_model.specs.Checks.{conditions};
-ghost use Rattle.plan_model.specs.Inner.{LinksHeld};
+ghost use Rattle.plan_model.specs.Inner.{LinksLeft};
 use crate::slots::slots_fit;
 use plan_model::Links;
 use refusals::Verdict;
@@ -16,9 +16,10 @@ use settings_model::Settings;
 mod slots; // number 7
 
 // All conditions on settings in their order, and where they are kept the row's links: in two lent tables the upward and the downward ones.
+// Settings that numbers 3 to 6 refuse leave every number of the tables as it was; where 7 refuses them the tables hold the links too.
 pub fn decide(s: Settings, up: &mut [u64; 65], down: &mut [u64; 65]) -> Links
     ensures { λ r. ⌜ r .verdict ≡ firstBroken Broken Kept (conditions s) ⌝ }
-    ensures { λ r. ⌜ (r .verdict ≡ Kept → LinksHeld s r (now (up .exit)) (now (down .exit))) ⌝ }
+    ensures { λ r. ⌜ LinksLeft s r (now (up .entry)) (now (up .exit)) (now (down .entry)) (now (down .exit)) ⌝ }
 {
     let links = links_of(s, up, down);
     let verdict = links.verdict;

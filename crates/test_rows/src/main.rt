@@ -1,4 +1,4 @@
-// Runs the compiled functions of row on texts at the edges of 'Rows of settings', with LOSS and without, and writes what they answer. The file `stdout`
+// Runs the compiled functions of row_read on texts at the edges of 'Rows of settings', with LOSS and without, and writes what they answer. The file `stdout`
 // beside src/ has what document 01 asks, worked out by another implementation; the check compares the two.
 use libc::STDIN_FILENO;
 use libc::STDOUT_FILENO;

@@ -1,7 +1,9 @@
 -- `row_loads::links_of` meets its contract. Assumes nothing.
-use mathlib.Core.Path.{_≡_, sym, _∙_}
+use mathlib.Core.Path.{_≡_, refl, sym, ap, _∙_}
 use borrow.Author.Needs.{needs}
 use Rattle.refusals.proofs.Answering.{broken-kept}
+use Rattle.plan_model.specs.declared.Links.{Links}
+use Rattle.plan_model.specs.Inner.{noLinks}
 use Rattle.plan_model.proofs.Answers.{kept-sound}
 use Rattle.row_loads.proofs.links_of.Statement.{statement}
 use Rattle.row_loads.proofs.links_of.Tie as tie
@@ -16,9 +18,16 @@ unlinked-requires : tie.Need-unlinked-requires
 unlinked-requires c κs = search needs
 
 returns : tie.Need-returns
+unfolding noLinks
 returns c =
     let v = c .unlinked .ensures in
-    (v ∙ c .before .before .before .check-before-slots .ensures, λ k. broken-kept _ (sym (c .before .enum-told .given .1) ∙ sym v ∙ k))
+    let e = c .before .before .before .check-before-slots .ensures in (
+      ap (λ (l : Links). l .verdict) v ∙ e,
+      record {
+        kept = λ k. broken-kept _ (sym (c .before .enum-told .given .1) ∙ e ∙ k);
+        refused = λ r k. (v ∙ ap noLinks (e ∙ k), refl, refl);
+      },
+    )
 
 enum-told-2 : tie.Need-enum-told-2
 enum-told-2 c = search needs
@@ -30,7 +39,8 @@ returns-2 : tie.Need-returns-2
 returns-2 c =
     let k = c .before .before .before .before .before .check-before-slots .ensures in
     let e = c .sound-links .ensures in
-    (e .0 ∙ sym (c .before .before .before .enum-told2 .given .1) ∙ k, λ v. e .1)
+    let kept = c .before .before .before .enum-told2 .given .1 in
+    (e .0 ∙ sym kept ∙ k, record { kept = λ v. e .1; refused = λ r v. broken-kept r (sym v ∙ sym k ∙ kept) })
 
 pub links-of-spec : {M : Type 1} → statement M
 links-of-spec =

@@ -3,7 +3,7 @@ use mathlib.Core.Path.{sym, _∙_}
 use borrow.Author.Needs.{needs}
 use Rattle.row_model.specs.Lines.{lines}
 use Rattle.report_model.specs.Text.{text}
-use Rattle.plan_model.proofs.Answers.{broken-refused, kept-planned, plan-keeps}
+use Rattle.plan_model.proofs.Answers.{kept-before-slots, broken-refused, kept-planned, plan-keeps}
 use Rattle.plan_model.proofs.Answered.{refused-answer, refused-put, refused-short, planned-answer, planned-put}
 use Rattle.row_print.proofs.plan_of.Statement.{statement}
 use Rattle.row_print.proofs.plan_of.Tie as tie
@@ -29,7 +29,8 @@ enum-told c = search needs
 
 put-lines-requires : tie.Need-put-lines-requires
 put-lines-requires c κs =
-    let h = c .before .before .before .before .before .decide .ensures .1 (c .before .before .before .enum-told .given .1) in
+    let d = c .before .before .before .before .before .decide .ensures in
+    let h = d .1 .kept (kept-before-slots _ (sym (d .0) ∙ c .before .before .before .enum-told .given .1)) in
     (h .sound, (h .interval, (h .end, (h .upward, (h .downward, h .arriving)))))
 
 same-length : tie.Need-same-length
