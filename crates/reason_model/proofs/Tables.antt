@@ -5,7 +5,8 @@ use Prim.Native.Nat.{ℕ, suc, _+_, _-_, _≤_, _<_}
 use native.Mathlib.Omega.{arith}
 use native.Mathlib.Numerals.{add-one}
 use lib.Dec.{leb}
-use lib.ListN.{length, getD, take, drop, List·getD-map, List·getD-eq-default}
+use lib.ListN.{length, length-drop, getD, take, drop, List·getD-map, List·getD-eq-default}
+use lib.Seq.{getD-take, getD-drop, length-take-le}
 use borrow.Author.Tests.{leb-true}
 use Rattle.decimal_model.specs.Ascii.{ascii}
 use Rattle.refusals.specs.declared.Refusal.the-variants.{Names}
@@ -30,12 +31,20 @@ stands ts k h =
     let x : start 0 ts k - 0 ≡ start 0 ts k = omega arith in
     record { order = b .order; inside = omega (arith, b .inside); text = rw x at (b .text) }
 
--- the phrase of a sort
-pub phrase-stands : (k : ℕ) → k < 21 → Stands phrases (start 0 phrases k) (start 0 phrases (k + 1)) (phraseAt k)
+-- n phrases from sort i on
+abbrev pub part : ℕ → ℕ → List (List ℕ)
+part i n = take n (drop i phrases)
+
+part-length : (i n : ℕ) → i + n ≤ 21 → length (part i n) ≡ n
+unfolding phrases sorts
+part-length i n l = length-take-le n (drop i phrases) (omega (arith, l, length-drop i phrases))
+
+-- the phrase of sort k, the j-th of them
+pub phrase-stands : (i n k j : ℕ) → k ≡ i + j → j < n → i + n ≤ 21 → Stands (part i n) (start 0 (part i n) j) (start 0 (part i n) (j + 1)) (phraseAt k)
 unfolding phrases sorts phraseAt sortAt
-phrase-stands k h =
-    let e : getD phrases k [] ≡ phraseAt k = in-range phrases k [] (phraseOf Names) h ∙ List·getD-map phraseOf sorts k Names in
-    rw (add-one, sym e) (stands phrases k h)
+phrase-stands i n k j z h l =
+    let e : getD (part i n) j [] ≡ phraseAt k = getD-take n (drop i phrases) j [] h ∙ getD-drop i phrases j [] ∙ in-range phrases (i + j) [] (phraseOf Names) (omega arith) ∙ List·getD-map phraseOf sorts (i + j) Names ∙ ap phraseAt (sym z) in
+    rw (add-one, sym e) (stands (part i n) j (omega (arith, h, part-length i n l)))
 
 -- a sort that the table does not have counts as the first
 pub phrase-else : (k : ℕ) → 21 ≤ k → phraseAt 0 ≡ phraseAt k

@@ -6,9 +6,9 @@ ghost use lib.ListN.{length, getD, drop};
 ghost use lib.Seq.{sets};
 ghost use Rattle.reason_model.specs.Reasons.{partOf, partText, taken, filled};
 ghost use Rattle.reason_model.specs.Inner.{most};
-use crate::columns::put_column;
 use buffer::put_byte;
 use decimal::put_number;
+use reason_table::columns::put_column;
 
 // Puts a phrase at the front, with the place and two values in its gaps, and answers how long it is then.
 pub(crate) fn put_filled(

@@ -8,15 +8,13 @@ ghost use lib.ListN.{length};
 ghost use lib.Seq.{sets};
 ghost use Rattle.reason_model.specs.Reasons.{reason, spoken};
 use crate::filling::put_filled;
-use crate::phrases::put_phrase;
-use crate::phrases::wording_of;
+use crate::wording::wording_of;
 use buffer::put_bytes;
+use reason_table::phrases::put_phrase;
 use refusals::Refusal;
 use refusals::Verdict;
 
-mod texts; // one of several texts in a constant
-pub mod columns; // columns by their names
-pub mod phrases; // the table of phrases
+mod wording; // its sort and its values
 mod filling; // a phrase with its gaps filled
 
 // No line is longer.

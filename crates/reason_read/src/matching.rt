@@ -15,7 +15,7 @@ use crate::numbers::is_numeral;
 use crate::numbers::place_in;
 use decimal::is_digit;
 use reason_model::Match;
-use reason_print::phrases::put_phrase;
+use reason_table::phrases::put_phrase;
 
 // The sorts' numbers, and their places where the phrase does not say it.
 const NUMBERS: [u32; 21] = [

@@ -5,7 +5,7 @@ ghost use Rattle.reason_model.specs.Reasons.{columnName};
 ghost use Rattle.reason_model.specs.Reading.{unnamed, columnIn};
 use crate::numbers::place_in;
 use reason_model::Match;
-use reason_print::columns::put_column;
+use reason_table::columns::put_column;
 
 // The column that a word is the name of.
 pub(crate) fn column_in(word: &[u8]) -> Match

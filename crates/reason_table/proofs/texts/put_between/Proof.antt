@@ -1,7 +1,7 @@
--- `reason_print::texts::put_between` meets its contract. Assumes nothing.
+-- `reason_table::texts::put_between` meets its contract. Assumes nothing.
 use borrow.Author.Needs.{needs}
-use Rattle.reason_print.proofs.texts.put_between.Statement.{statement}
-use Rattle.reason_print.proofs.texts.put_between.Tie as tie
+use Rattle.reason_table.proofs.texts.put_between.Statement.{statement}
+use Rattle.reason_table.proofs.texts.put_between.Tie as tie
 
 sub-put-bytes : tie.Need-sub-put-bytes
 sub-put-bytes c = search needs

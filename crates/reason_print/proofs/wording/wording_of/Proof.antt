@@ -1,9 +1,9 @@
--- `reason_print::phrases::wording_of` meets its contract. Assumes nothing.
+-- `reason_print::wording::wording_of` meets its contract. Assumes nothing.
 use Rattle.reason_model.specs.Reasons.{valuesOf}
 use Rattle.reason_model.specs.Inner.{sortOf, wording}
 use borrow.Author.Needs.{needs}
-use Rattle.reason_print.proofs.phrases.wording_of.Statement.{statement}
-use Rattle.reason_print.proofs.phrases.wording_of.Tie as tie
+use Rattle.reason_print.proofs.wording.wording_of.Statement.{statement}
+use Rattle.reason_print.proofs.wording.wording_of.Tie as tie
 
 enum-told : tie.Need-enum-told
 enum-told c = search needs

@@ -1,9 +1,9 @@
--- `reason_print::phrases::known_sort` meets its contract. Assumes nothing.
+-- `reason_table::phrases::known_sort` meets its contract. Assumes nothing.
 use native.Mathlib.Omega.{arith}
 use Rattle.reason_model.proofs.Tables.{phrase-else}
 use borrow.Author.Needs.{needs}
-use Rattle.reason_print.proofs.phrases.known_sort.Statement.{statement}
-use Rattle.reason_print.proofs.phrases.known_sort.Tie as tie
+use Rattle.reason_table.proofs.phrases.known_sort.Statement.{statement}
+use Rattle.reason_table.proofs.phrases.known_sort.Tie as tie
 
 returns : tie.Need-returns
 returns c = search needs

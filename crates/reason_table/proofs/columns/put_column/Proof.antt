@@ -1,4 +1,4 @@
--- `reason_print::columns::put_column` meets its contract. Assumes nothing.
+-- `reason_table::columns::put_column` meets its contract. Assumes nothing.
 use mathlib.Core.Path.{_≡_, ap, _∙_}
 use mathlib.Core.List.{List}
 use Prim.Native.Nat.{ℕ}
@@ -12,8 +12,8 @@ use Rattle.reason_model.specs.Inner.{joined, startsFrom, names}
 use Rattle.reason_model.proofs.ColumnNames.{name-above}
 use Rattle.reason_model.proofs.Tables.{name-stands}
 use borrow.Author.Needs.{needs}
-use Rattle.reason_print.proofs.columns.put_column.Statement.{statement}
-use Rattle.reason_print.proofs.columns.put_column.Tie as tie
+use Rattle.reason_table.proofs.columns.put_column.Statement.{statement}
+use Rattle.reason_table.proofs.columns.put_column.Tie as tie
 
 put-number-requires : tie.Need-put-number-requires
 put-number-requires c κs = search needs

@@ -1,9 +1,9 @@
--- `reason_print::phrases::conflict_wording` meets its contract. Assumes nothing.
+-- `reason_print::wording::conflict_wording` meets its contract. Assumes nothing.
 use Rattle.reason_model.specs.Reasons.{valuesAtOdds, valuesOf}
 use Rattle.reason_model.specs.Inner.{conflictSort, sortOf, wording}
 use borrow.Author.Needs.{needs}
-use Rattle.reason_print.proofs.phrases.conflict_wording.Statement.{statement}
-use Rattle.reason_print.proofs.phrases.conflict_wording.Tie as tie
+use Rattle.reason_print.proofs.wording.conflict_wording.Statement.{statement}
+use Rattle.reason_print.proofs.wording.conflict_wording.Tie as tie
 
 enum-known-conflict : tie.Need-enum-known-conflict
 enum-known-conflict c = search needs

@@ -1,9 +1,9 @@
--- `reason_print::phrases::tree_wording` meets its contract. Assumes nothing.
+-- `reason_print::wording::tree_wording` meets its contract. Assumes nothing.
 use Rattle.reason_model.specs.Reasons.{valuesOf, treeValues}
 use Rattle.reason_model.specs.Inner.{sortOf, treeSort, wording}
 use borrow.Author.Needs.{needs}
-use Rattle.reason_print.proofs.phrases.tree_wording.Statement.{statement}
-use Rattle.reason_print.proofs.phrases.tree_wording.Tie as tie
+use Rattle.reason_print.proofs.wording.tree_wording.Statement.{statement}
+use Rattle.reason_print.proofs.wording.tree_wording.Tie as tie
 
 enum-told : tie.Need-enum-told
 enum-told c = search needs
