@@ -8,7 +8,7 @@ use lib.Dec.{ltb, leb}
 use native.Mathlib.Numerals.{add-one}
 use lib.ListN.{length, getD, take, drop, drop-of-length-le, List·getD-map}
 use lib.Seq.{drop-cons}
-use borrow.Author.Tests.{ltb-true, leb-true}
+use borrow.Author.Tests.{leb-true}
 use Rattle.decimal_model.specs.Ascii.{ascii}
 use Rattle.refusals.specs.declared.Refusal.{Refusal}
 use Rattle.refusals.specs.declared.Refusal.the-variants.{Names, Unreadable, TextAfter, OutOfRange, AtOdds, Reservations, Superframes, SlotsUsed, LentTooShort, InputTooLong, InTree}
@@ -116,10 +116,6 @@ sorted (InTree refusal) = tree-sorted refusal
 -- ---- a refusal's line, as code makes it
 
 module _ (r : Refusal) where
-  pub sort-inside : sortOf r < 21
-  unfolding sorts
-  sort-inside = ltb-true (sortOf r) 21 (ap (λ (x : Facts). x .inside) (sorted r))
-
   pub phrase-of-sort : phraseAt (sortOf r) ≡ phraseOf r
   unfolding phraseAt
   phrase-of-sort = ap (λ (x : Facts). x .phrase) (sorted r)

@@ -12,7 +12,7 @@ use Rattle.row_model.specs.declared.Line.{Line}
 use Rattle.row_model.specs.Lines.{letter}
 use Rattle.tree_model.specs.declared.NodeLine.{NodeLine}
 use Rattle.report_model.specs.Text.{header, numbers, lineText, text, refusalText}
-use Rattle.report_model.specs.TreeText.{treeHeader, nodeText, treeText}
+use Rattle.report_model.specs.TreeText.{nodeText}
 
 -- a line: its letter, and each number behind a space
 pub line-columns : (l : Line) → lineText l
@@ -71,18 +71,3 @@ text-none = refl
 pub header-length : length (header ++ 10 ∷ []) ≡ 56
 unfolding header ascii
 header-length = refl
-
--- the same of a surveyed tree's plan
-abbrev pub treeBelow : List NodeLine → List ℕ
-treeBelow p = ended (map nodeText p)
-
-pub tree-below-snoc : (p : List NodeLine) (n : NodeLine) → treeBelow (p ++ n ∷ []) ≡ treeBelow p ++ (nodeText n ++ 10 ∷ [])
-tree-below-snoc p n = ap ended (map-append nodeText p (n ∷ [])) ∙ ended-snoc (map nodeText p) (nodeText n)
-
-pub tree-text-below : (p : List NodeLine) → treeText p ≡ (treeHeader ++ 10 ∷ []) ++ treeBelow p
-unfolding treeText ended
-tree-text-below p = sym (append-assoc treeHeader (10 ∷ []) (treeBelow p))
-
-pub tree-header-length : length (treeHeader ++ 10 ∷ []) ≡ 62
-unfolding treeHeader ascii
-tree-header-length = refl

@@ -29,11 +29,6 @@ module _ (t : Tree) (p : Planted t) where
   unfolding childBy
   child-on k c v e = rw (ne-eqb (t .parent (suc c)) v e, childBy)
 
-  child-none : (k v : ℕ) → childBy k t zero v ≡ 0
-  unfolding childBy
-  child-none zero v = refl
-  child-none (suc k) v = refl
-
   -- what lies above c has a smaller number
   child-less : (k c v : ℕ) → c ≤ t .nodes → 1 ≤ childBy k t c v → v < c
   unfolding childBy
