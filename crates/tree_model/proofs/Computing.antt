@@ -11,7 +11,7 @@ use Rattle.row_model.specs.declared.Kind.{Kind}
 use Rattle.row_model.specs.Witness.{lengthsAt}
 use Rattle.row_model.proofs.Computing.{plans}
 use Rattle.tree_model.specs.declared.NodeLine.{NodeLine}
-use Rattle.tree_model.specs.Tree.{sumTo, someTo, isNode, isRouter, routers}
+use Rattle.tree_model.specs.Tree.{sumTo, someTo, isNumber, isRouter, routers, isListed}
 use Rattle.tree_model.specs.Ways.{childBy, below, next, superframeOf, kindOf, depthBy, depthOf}
 use Rattle.tree_model.specs.Loads.{gather, inputBy, outputBy, entering}
 use Rattle.tree_model.specs.Beside.{beside}
@@ -21,7 +21,7 @@ use Rattle.tree_model.specs.Outcome.{outcomeOf}
 use Rattle.tree_model.specs.Promise.{noLine, printed, route, longest, networkOf}
 
 unfoldable pub trees : Type 0
-unfolding plans bit sumTo someTo isNode isRouter routers childBy below next superframeOf kindOf depthBy depthOf gather inputBy outputBy entering beside loadAt linkAt sinkFigures figuresAt wayDelay routeAt lineAt lines routersFit reserves reservationsAt usedAt reservableAt routerAt routersFrom conditions outcomeOf
+unfolding plans bit sumTo someTo isNumber isRouter routers isListed childBy below next superframeOf kindOf depthBy depthOf gather inputBy outputBy entering beside loadAt linkAt sinkFigures figuresAt wayDelay routeAt lineAt lines routersFit reserves reservationsAt usedAt reservableAt routerAt routersFrom conditions outcomeOf
 trees = Unit
 
 unfoldable pub runs : Type 0

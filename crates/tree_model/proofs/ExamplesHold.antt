@@ -2,12 +2,12 @@
 use mathlib.Core.Path.{refl}
 use Rattle.row_model.specs.Witness.{columns}
 use Rattle.tree_model.specs.Promise.{longest}
-use Rattle.tree_model.specs.Examples.{upTo, nodeColumns, table, common, balancedTree, BalancedTrees, acknowledged, branches, Branches, twoFailures, WithLoss, silent, lone, WithoutLinks, chain, SettingsRefused, whole, star, eight, eightOneSilent, elevenFourSilent, bothBroken, twoDown, fullBelow, oneSilent, RoutersRefused}
+use Rattle.tree_model.specs.Examples.{upTo, nodeColumns, table, common, balancedTree, BalancedTrees, acknowledged, branches, Branches, gapped, closedUp, apart, loadedApart, silentApart, linesOfWhole, GapsAndSummaries, twoFailures, WithLoss, silent, lone, WithoutLinks, chain, SettingsRefused, whole, star, eight, eightOneSilent, elevenFourSilent, bothBroken, twoDown, fullBelow, oneSilent, RoutersRefused}
 use Rattle.tree_model.proofs.Computing.{trees}
 
 -- to unfold `tables` is to unfold all that the examples are computed with
 tables : Type 0
-unfolding trees columns longest upTo nodeColumns table common balancedTree acknowledged branches twoFailures silent lone chain whole star eight eightOneSilent elevenFourSilent bothBroken twoDown fullBelow oneSilent
+unfolding trees columns longest upTo nodeColumns table common balancedTree acknowledged branches gapped closedUp apart loadedApart silentApart linesOfWhole twoFailures silent lone chain whole star eight eightOneSilent elevenFourSilent bothBroken twoDown fullBelow oneSilent
 tables = Unit
 
 pub balanced-trees : BalancedTrees
@@ -36,6 +36,23 @@ branches-hold = record {
   printed = refl;
   planned = refl;
   largestRoute = refl;
+}
+
+pub gaps-and-summaries : GapsAndSummaries
+unfolding tables
+gaps-and-summaries = record {
+  gapLines = refl;
+  gapRouters = refl;
+  gapPlanned = refl;
+  loadedLines = refl;
+  loadedReservations = refl;
+  loadedSlots = refl;
+  loadedPlanned = refl;
+  loadedSix = refl;
+  wholeSix = refl;
+  silentLines = refl;
+  silentReservations = refl;
+  silentSix = refl;
 }
 
 pub with-loss : WithLoss

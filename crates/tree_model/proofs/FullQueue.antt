@@ -24,6 +24,7 @@ use Rattle.tree_model.specs.Promise.{printed, networkOf, Windows, Readin
 use Rattle.tree_model.specs.Laws.{Surveyed}
 use Rattle.tree_model.specs.Examples.{nodeColumns, table}
 use Rattle.tree_model.specs.Witness.{shortest, pair, pairNetwork, fullReadings, Filled, lossy, lossyNetwork, lossyReadings, Lossy}
+use Rattle.tree_model.proofs.PlainLists.{plain-list-surveyed}
 use Rattle.tree_model.proofs.Computing.{trees, runs, printed-line}
 
 -- to unfold `witness` is to unfold all that it is computed with
@@ -38,17 +39,15 @@ two P a b (suc (suc i)) h = absurd (omega arith)
 
 pair-surveyed : Surveyed pair 1
 unfolding pair
-pair-surveyed = record {
-  planted = record {
-    few = lit≤ tt;
-    root = refl;
-    some = λ v h most. node (λ v. 2 ≤ v → 1 ≤ pair .parent v) (λ h. absurd (omega arith)) (λ h. lit≤ tt) v (omega arith) most h;
-    smaller = node _ (lit< tt) (lit< tt);
-  };
-  ranged = record { bursts = node _ (lit≤ tt) (lit≤ tt); rates = node _ (lit≤ tt) (lit≤ tt); both = node _ (λ z. refl) (λ z. absurd (omega (arith, z))) };
-  sinkSome = lit≤ tt;
-  sinkKnown = lit≤ tt;
-}
+pair-surveyed = plain-list-surveyed (0 ∷ 0 ∷ 1 ∷ []) (0 ∷ 0 ∷ 1 ∷ []) (0 ∷ 0 ∷ 2 ∷ []) 1
+    (record { few = lit≤ tt; root = refl; parents = λ v two most. node (λ v. 2 ≤ v → (1 ≤ pair .parent v) × (pair .parent v < v)) (λ h. absurd (omega arith)) (λ h. (lit≤ tt, lit< tt)) v (omega arith) most two })
+    (record {
+      bursts = node _ (lit≤ tt) (lit≤ tt);
+      rates = node _ (lit≤ tt) (lit≤ tt);
+      both = node _ (λ z. refl) (λ z. absurd (omega (arith, z)));
+    })
+    (lit≤ tt)
+    (lit≤ tt)
   where
     node : (P : ℕ → Type 0) → P 1 → P 2 → (v : ℕ) → 1 ≤ v → v ≤ 2 → P v
     node P a b zero one most = absurd (omega arith)

@@ -1,6 +1,6 @@
 -- The laws of specs/Laws. Assumes nothing.
 use mathlib.Core.Path.{_≡_, refl, ap, subst, _∙_}
-use mathlib.Core.Bool.{true, false, true≢false}
+use mathlib.Core.Bool.{Bool, true, false, cond, true≢false}
 use mathlib.Core.List.{List, [], _∷_}
 use Prim.Native.Nat.{ℕ, suc, _*_, _≤_}
 use native.Mathlib.Decide.{ℕ-discrete}
@@ -20,7 +20,7 @@ use Rattle.row_model.specs.Times.{timingOf}
 use Rattle.row_model.specs.Lines.{letter, sameKind}
 use Rattle.row_model.proofs.LoadLaws.{timed, interval-low, exchange-low}
 use Rattle.tree_model.specs.declared.NodeLine.{NodeLine}
-use Rattle.tree_model.specs.Tree.{Tree}
+use Rattle.tree_model.specs.Tree.{Tree, isListed}
 use Rattle.tree_model.specs.Ways.{next, superframeOf, kindOf}
 use Rattle.tree_model.specs.Loads.{entering}
 use Rattle.tree_model.specs.Lines.{loadAt, linkAt, figuresAt, lineAt, lines}
@@ -70,7 +70,11 @@ module _ (b : Settings) (t : Tree) (s : ℕ) (C : Checked b) where
 
   fewest : All Fewest (lines b t s)
   unfolding lines
-  fewest = All-join (t .nodes) (λ i. lineAt b t s (suc i) ∷ []) (λ i h. each (line-fewest (suc i)) none)
+  fewest = All-join (t .nodes) (λ i. cond (isListed t (suc i)) (lineAt b t s (suc i) ∷ []) []) (λ i h. by (isListed t (suc i)) (suc i))
+    where
+      by : (c : Bool) (v : ℕ) → All Fewest (cond c (lineAt b t s v ∷ []) [])
+      by true v = each (line-fewest v) none
+      by false v = none
 
 pub no-slot-too-many : NoSlotTooMany
 no-slot-too-many b t s p e = of-plans b t s (All (λ l. sameKind (l .line .kind) Sink ≡ false → Smallest (l .line .figures .rate) (timingOf b .slot) (timingOf b .exchange) (l .line .figures .slots))) (λ P. fewest b t s (P .checked)) p e
@@ -81,7 +85,7 @@ pub every-load-bounded : EveryLoadBounded
 unfolding loadAt entering
 every-load-bounded b t s C S v one most =
     let l : Low (entering (timingOf b) t s v) =
-    input-low (timingOf b) t (S .planted) (S .ranged) (record { interval = interval-low b C; exchange = omega (arith, exchange-low b C) }) v (next t s v) (facing t (S .planted) s (S .sinkSome) (S .sinkKnown) v one most) in
+    input-low (timingOf b) t (S .planted) (S .ranged) (S .plain .withoutSummaries) (record { interval = interval-low b C; exchange = omega (arith, exchange-low b C) }) v (next t s v) (facing t (S .planted) s (S .sinkSome) (S .sinkKnown) (S .plain .withoutGaps s (S .sinkKnown)) v one most (S .plain .withoutGaps v most)) in
     record { rate = l .rate; burst = l .burst }
 
 -- ---- demand 3
@@ -113,7 +117,7 @@ module _ (b : Settings) (t : Tree) (s : ℕ) (S : Surveyed t s) (P : Plannable b
 
       reserved : 1 ≤ loadAt b t s v .rate .0 → slotsOf (timingOf b) (loadAt b t s v .rate) .0 ≤ reservableAt b t s r .0
       reserved h =
-          let n = superframe-node t (S .planted) s (S .sinkSome) (S .sinkKnown) v one most m in
+          let n = superframe-node t (S .planted) s (S .sinkSome) (S .sinkKnown) (S .plain .withoutGaps s (S .sinkKnown)) v one most (S .plain .withoutGaps v most) m in
           omega (arith, among v one most m h, P .used r (n .0) (n .1))
 
       by : Dec (loadAt b t s v .rate .0 ≡ 0) → slotsOf (timingOf b) (loadAt b t s v .rate) .0 * timingOf b .slot .0 ≤ timingOf b .interval .0
@@ -124,7 +128,7 @@ module _ (b : Settings) (t : Tree) (s : ℕ) (S : Surveyed t s) (P : Plannable b
   unfolding networkOf
   windows i L =
       let m : suc i ≡ s → ⊥ = λ e. L .notSink (omega (arith, e)) in
-      rw (link-printed b t s i (L .node) m, link-slots b t s (suc i) (timed b (P .checked)))
+      rw (link-printed b t (S .plain) s i (L .node) m, link-slots b t s (suc i) (timed b (P .checked)))
       (omega (arith, fits (suc i) (omega arith) (L .node) m))
 
 pub windows-exist : WindowsExist

@@ -3,6 +3,8 @@
 pub mod Steps
 -- what all nodes make together bounds what enters one
 pub mod Shares
+-- E3's lists among trees with gaps and summaries
+pub mod PlainLists
 -- rates and bursts fit
 pub mod LoadBounds
 -- the way to the sink

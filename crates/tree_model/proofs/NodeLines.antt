@@ -20,9 +20,10 @@ use Rattle.settings_model.specs.declared.Settings.{Settings}
 use Rattle.row_model.specs.Times.{timingOf}
 use Rattle.row_model.specs.Lines.{none}
 use Rattle.tree_model.specs.declared.NodeLine.{NodeLine}
-use Rattle.tree_model.specs.Tree.{Tree}
+use Rattle.tree_model.specs.Tree.{Tree, Plain}
 use Rattle.tree_model.specs.Lines.{loadAt, linkAt, sinkFigures, figuresAt, routeAt, lineAt, lines}
 use Rattle.tree_model.specs.Promise.{noLine, printed, route}
+use Rattle.tree_model.proofs.PlainLists.{plain-as-in-e3}
 
 -- lists with one entry for each number
 module _ {A : Type 0} (f : ℕ → A) (d : A) where
@@ -46,10 +47,10 @@ module _ {A : Type 0} (f : ℕ → A) (d : A) where
       by (yes e) g = rw e (last (join n (λ i. f i ∷ [])) n (join-length n))
       by (no m) g = List·getD-append (join n (λ i. f i ∷ [])) (f n ∷ []) d i (omega (arith, join-length n, m)) ∙ g (omega (arith, m))
 
-module _ (b : Settings) (t : Tree) (s : ℕ) where
-  pub line-at : (i : ℕ) → i < t .nodes → getD (lines b t s) i noLine ≡ lineAt b t s (suc i)
-  unfolding lines
-  line-at i h = join-at (λ i. lineAt b t s (suc i)) noLine (t .nodes) i h
+-- the line of node i + 1, where no number is missing and none stands for a branch
+module _ (b : Settings) (t : Tree) (p : Plain t) (s : ℕ) where
+  line-at : (i : ℕ) → i < t .nodes → getD (lines b t s) i noLine ≡ lineAt b t s (suc i)
+  line-at i h = rw (plain-as-in-e3 b t s p .lines) (join-at (λ i. lineAt b t s (suc i)) noLine (t .nodes) i h)
 
   -- the figures of a link's line, of the sink's, and ROUTE
   pub link-printed : (i : ℕ) → i < t .nodes → (suc i ≡ s → ⊥) → printed (lines b t s) i ≡ linkAt b t s (suc i)
@@ -64,6 +65,7 @@ module _ (b : Settings) (t : Tree) (s : ℕ) where
   unfolding route lineAt
   route-printed i h = ap (λ (l : NodeLine). l .route .0) (line-at i h)
 
+module _ (b : Settings) (t : Tree) (s : ℕ) where
   -- a link with traffic, and one without
   pub link-used : (v : ℕ) → 1 ≤ loadAt b t s v .rate .0 → linkAt b t s v ≡ figuresOf (timingOf b) (loadAt b t s v)
   unfolding linkAt

@@ -7,8 +7,6 @@ use native.Mathlib.Decide.{decLe, ℕ-discrete}
 use native.Mathlib.Omega.{arith}
 use lib.ListN.{length}
 use borrow.Author.Tests.{ne-eqb}
-use Rattle.measure.specs.Measures.{frames}
-use Rattle.measure.proofs.Conversions.{burst-is}
 use Rattle.network.specs.Counting.{total, count, All}
 use Rattle.network.specs.Model.{Network, State, queue}
 use Rattle.network.specs.Readings.{Reading, made}
@@ -29,6 +27,7 @@ use Rattle.tree_model.specs.Loads.{steps, entering}
 use Rattle.tree_model.specs.Lines.{loadAt, linkAt, sinkFigures, wayDelay, routeAt, lines}
 use Rattle.tree_model.specs.Promise.{noLine, printed, route, longest, networkOf, Readings, Held, Keeps}
 use Rattle.tree_model.specs.Laws.{Surveyed}
+use Rattle.tree_model.proofs.PlainLists.{own-burst}
 use Rattle.tree_model.proofs.LoadBounds.{rate-exact}
 use Rattle.tree_model.proofs.WayLaws.{facing}
 use Rattle.tree_model.proofs.Makers.{made-elsewhere, queue-made, received-made}
@@ -43,11 +42,11 @@ route-longest (l ∷ p) zero = omega arith
 route-longest (l ∷ p) (suc i) = omega (arith, route-longest p i)
 
 -- every node keeps to the bucket that the figures give it
-buckets : (b : Settings) (t : Tree) (s : ℕ) (l : List Reading) → Readings b t l → (offset : ℕ → ℕ) → Buckets (networkOf b (lines b t s) t s offset) (treeFigures b t s) l
+buckets : (b : Settings) (t : Tree) (s : ℕ) → Surveyed t s → (l : List Reading) → Readings b t l → (offset : ℕ → ℕ) → Buckets (networkOf b (lines b t s) t s offset) (treeFigures b t s) l
 unfolding networkOf treeFigures
-buckets b t s l R offset = record {
+buckets b t s S l R offset = record {
   sensors = R .sensors;
-  bucket = λ i x n h. omega (arith, R .bucket i x n h, burst-is (frames (t .burst (suc i))) (timingOf b .interval));
+  bucket = λ i x n h. omega (arith, R .bucket i x n h, own-burst (timingOf b) t (S .plain .withoutSummaries) (suc i));
 }
 
 module _ (b : Settings) (t : Tree) (s : ℕ) (S : Surveyed t s) (l : List Reading) (R : Readings b t l) where
@@ -86,13 +85,13 @@ module _ (b : Settings) (t : Tree) (s : ℕ) (S : Surveyed t s) (l : List Readin
   maker-load : (o c : ℕ) → 1 ≤ made l c o → 1 ≤ loadAt b t s (suc o) .rate .0
   unfolding loadAt entering
   maker-load o c h =
-      omega (arith, maker-rate o c h, rate-exact (timingOf b) t (S .planted) (suc o) (next t s (suc o)) (facing t (S .planted) s (S .sinkSome) (S .sinkKnown) (suc o) (omega arith) (maker-known o c h)))
+      omega (arith, maker-rate o c h, rate-exact (timingOf b) t (S .planted) (suc o) (next t s (suc o)) (facing t (S .planted) s (S .sinkSome) (S .sinkKnown) (S .plain .withoutGaps s (S .sinkKnown)) (suc o) (omega arith) (maker-known o c h) (S .plain .withoutGaps (suc o) (maker-known o c h))))
 
   -- so the delay over its route is the printed one
   maker-route : (o c : ℕ) → 1 ≤ made l c o → wayDelay (steps t) (λ v. linkAt b t s v .delay .0) t s (suc o) ≡ route (lines b t s) o
   unfolding routeAt
   maker-route o c h =
-      sym (route-printed b t s o (maker-known o c h) ∙ rw (ne-eqb (loadAt b t s (suc o) .rate .0) 0 (λ e. omega (arith, maker-load o c h))))
+      sym (route-printed b t (S .plain) s o (maker-known o c h) ∙ rw (ne-eqb (loadAt b t s (suc o) .rate .0) 0 (λ e. omega (arith, maker-load o c h))))
 
   module _ (offset : ℕ → ℕ) (u : ℕ) (now : State) (K : Kept (networkOf b (lines b t s) t s offset) (treeFigures b t s) l u now) where
     abbrev N : Network
@@ -101,7 +100,7 @@ module _ (b : Settings) (t : Tree) (s : ℕ) (S : Surveyed t s) (l : List Readin
     -- a queue's bound, not rounded, fits the buffer of its line
     queue-fits : (i : ℕ) → Linked N i → length (queue now i) ≤ printed (lines b t s) i .buffer .0
     unfolding networkOf
-    queue-fits i L = rw (link-printed b t s i (L .node) (λ e. L .notSink (omega (arith, e)))) (by (ℕ-discrete (loadAt b t s (suc i) .rate .0) 0))
+    queue-fits i L = rw (link-printed b t (S .plain) s i (L .node) (λ e. L .notSink (omega (arith, e)))) (by (ℕ-discrete (loadAt b t s (suc i) .rate .0) 0))
       where
         bound : length (queue now i) * timingOf b .interval .0 ≤ after (timingOf b) (loadAt b t s (suc i)) .burst .0
         bound = rw (tree-burst-after b t s i) at (K .queues i L)
@@ -131,7 +130,7 @@ module _ (b : Settings) (t : Tree) (s : ℕ) (S : Surveyed t s) (l : List Readin
     sink-load x n =
         let z : suc (s - 1) ≡ s = omega (arith, S .sinkSome) in
         let k : s - 1 < t .nodes = omega (arith, S .sinkSome, S .sinkKnown) in
-        rw (sink-printed b t s (s - 1) k z)
+        rw (sink-printed b t (S .plain) s (s - 1) k z)
         (subst (λ (v : ℕ). count (within x n) (now .received) * timingOf b .interval .0 ≤ loadAt b t s v .burst .0 + loadAt b t s v .rate .0 * n) z (K .stretches x n))
 
     -- the claim about networks, read with the printed figures
@@ -153,4 +152,4 @@ module _ (b : Settings) (t : Tree) (s : ℕ) (S : Surveyed t s) (l : List Readin
 pub keeps : (b : Settings) (t : Tree) (s : ℕ) → Checked b → Surveyed t s → Keeps b t s (lines b t s)
 keeps b t s C S offset O l R state run u =
     held b t s S l R offset u (state (suc u))
-    (every-run-is-kept (networkOf b (lines b t s) t s offset) (treeFigures b t s) (provisioned b C t s S offset O) l (buckets b t s l R offset) state run u)
+    (every-run-is-kept (networkOf b (lines b t s) t s offset) (treeFigures b t s) (provisioned b C t s S offset O) l (buckets b t s S l R offset) state run u)

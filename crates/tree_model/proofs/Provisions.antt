@@ -20,7 +20,7 @@ use Rattle.links.specs.declared.Timing.{Timing}
 use Rattle.links.specs.declared.Load.{Load}
 use Rattle.links.specs.Link.{slotsOf, framesOf, latencyOf, after}
 use Rattle.links.specs.Answers.{Timed}
-use Rattle.links.proofs.LinkLaws.{serves, after-rate, after-burst, delay-serves}
+use Rattle.links.proofs.LinkLaws.{serves, after-burst, delay-serves}
 use Rattle.settings_model.specs.declared.Settings.{Settings}
 use Rattle.settings_model.specs.Laws.{Checked}
 use Rattle.row_model.specs.Times.{timingOf}
@@ -28,13 +28,15 @@ use Rattle.row_model.proofs.LoadLaws.{interval-positive, timed}
 use Rattle.tree_model.specs.Tree as tree
 use Rattle.tree_model.specs.Tree.{Tree, sumTo, Facing}
 use Rattle.tree_model.specs.Ways.{next}
-use Rattle.tree_model.specs.Loads.{sensed, steps, inputOf, outputOf, entering}
+use Rattle.tree_model.specs.Loads.{sensed, leaving, steps, inputOf, outputOf, entering}
 use Rattle.tree_model.specs.Lines.{loadAt, linkAt, wayDelay, lines}
 use Rattle.tree_model.specs.Promise.{printed, networkOf, Windows}
 use Rattle.tree_model.specs.Laws.{Surveyed}
 use Rattle.tree_model.proofs.Steps.{offered}
 use Rattle.tree_model.proofs.WayLaws.{facing, next-node}
 use Rattle.tree_model.proofs.Entering.{total-nodes, silent, enters, rates-add, bursts-add}
+use Rattle.tree_model.proofs.LoadBounds.{leaving-rate}
+use Rattle.tree_model.proofs.PlainLists.{link-crossed}
 use Rattle.tree_model.proofs.Delays.{way-step}
 use Rattle.tree_model.proofs.NodeLines.{link-printed, link-used, no-slots, link-slots}
 
@@ -68,7 +70,7 @@ no-frames a ρ h e =
 pub load-silent : (b : Settings) (t : Tree) (s : ℕ) → Surveyed t s → (v : ℕ) → 1 ≤ v → v ≤ t .nodes → loadAt b t s v .rate .0 ≡ 0 → loadAt b t s v .burst .0 ≡ 0
 unfolding loadAt entering
 load-silent b t s S v one most e =
-    silent (timingOf b) t (S .planted) (S .ranged) v (next t s v) (facing t (S .planted) s (S .sinkSome) (S .sinkKnown) v one most) e
+    silent (timingOf b) t (S .planted) (S .ranged) (S .plain .withoutSummaries) v (next t s v) (facing t (S .planted) s (S .sinkSome) (S .sinkKnown) (S .plain .withoutGaps s (S .sinkKnown)) v one most (S .plain .withoutGaps v most)) e
 
 module _ (b : Settings) (C : Checked b) (t : Tree) (s : ℕ) (S : Surveyed t s) (offset : ℕ → ℕ) where
   abbrev N : Network
@@ -88,7 +90,7 @@ module _ (b : Settings) (C : Checked b) (t : Tree) (s : ℕ) (S : Surveyed t s) 
   unfolding networkOf framesOf
   holds-is i L =
       ap (λ (k : Slots). framesIn k (timingOf b .slot) (timingOf b .exchange) .0)
-      (ap (λ f. f .slots) (link-printed b t s i (node i L) (other i L)) ∙ link-slots b t s (suc i) (timed b C))
+      (ap (λ f. f .slots) (link-printed b t (S .plain) s i (node i L) (other i L)) ∙ link-slots b t s (suc i) (timed b C))
 
   module _ (O : Windows b (lines b t s) N offset) where
     window-fits : (i : ℕ) → Linked N i → N .offset i + N .holds i * N .exchange ≤ N .interval
@@ -139,13 +141,13 @@ module _ (b : Settings) (C : Checked b) (t : Tree) (s : ℕ) (S : Surveyed t s) 
   sent-only j (suc i) one most e =
       let d = and-eq-true-iff (not (eqb i (s - 1))) (eqb (next t s (suc i) - 1) j) .0 e in
       let m : suc i ≡ s → ⊥ = λ z. absurd (eqb-false i (s - 1) (not-true _ (d .0)) (omega (arith, z))) in
-      let n = next-node t (S .planted) s (S .sinkSome) (S .sinkKnown) (suc i) one most m in
+      let n = next-node t (S .planted) s (S .sinkSome) (S .sinkKnown) (S .plain .withoutGaps s (S .sinkKnown)) (suc i) one most (S .plain .withoutGaps (suc i) most) m in
       (m, omega (arith, eqb-true (next t s (suc i) - 1) j (d .1), n .0))
 
   module _ (q : Load → ℕ)
       (adds : (v from : ℕ) → Facing t v from
       → q (inputOf (timingOf b) t v from) ≡ q (sensed (timingOf b) t v) + sumTo (λ w. q (offered (tree.feeds t v from w) (outputOf (timingOf b) t w v))) (t .nodes))
-      (f : ℕ → ℕ) (leaves : (i : ℕ) → f i ≡ q (after (timingOf b) (loadAt b t s (suc i)))) where
+      (f : ℕ → ℕ) (leaves : (i : ℕ) → f i ≡ q (leaving (timingOf b) t (suc i) (loadAt b t s (suc i)))) where
     -- what a node's own sensor makes and what left the links to it enters it
     all-enters : (j : ℕ) → j < t .nodes → q (sensed (timingOf b) t (suc j)) + total (λ i. bit (feeds N i j) * f i) (t .nodes) ≤ q (loadAt b t s (suc j))
     unfolding sent of-node loadAt
@@ -153,10 +155,10 @@ module _ (b : Settings) (C : Checked b) (t : Tree) (s : ℕ) (S : Surveyed t s) 
         omega (
           arith,
           total-nodes (λ w. bit (sent j w) * of-node f w) (t .nodes),
-          enters (timingOf b) t (S .planted) s (S .sinkSome) (S .sinkKnown) q adds (of-node f) leaves-node (suc j) (omega arith) h (sent j) (λ w o k e. sent-only j w o k e),
+          enters (timingOf b) t (S .planted) s (S .sinkSome) (S .sinkKnown) (S .plain .withoutGaps) q adds (of-node f) leaves-node (suc j) (omega arith) h (sent j) (λ w o k e. sent-only j w o k e),
         )
       where
-        leaves-node : (w : ℕ) → 1 ≤ w → w ≤ t .nodes → (w ≡ s → ⊥) → of-node f w ≡ q (after (timingOf b) (entering (timingOf b) t s w))
+        leaves-node : (w : ℕ) → 1 ≤ w → w ≤ t .nodes → (w ≡ s → ⊥) → of-node f w ≡ q (leaving (timingOf b) t w (entering (timingOf b) t s w))
         leaves-node zero o k m = absurd (omega arith)
         leaves-node (suc i) o k m = leaves i
 
@@ -164,9 +166,9 @@ module _ (b : Settings) (C : Checked b) (t : Tree) (s : ℕ) (S : Surveyed t s) 
   route-covers : (i : ℕ) → Linked N i → treeFigures b t s .delay i + treeFigures b t s .route (N .next i) ≤ treeFigures b t s .route i
   unfolding treeFigures networkOf
   route-covers i L =
-      let n = next-node t (S .planted) s (S .sinkSome) (S .sinkKnown) (suc i) (omega arith) (node i L) (other i L) in
+      let n = next-node t (S .planted) s (S .sinkSome) (S .sinkKnown) (S .plain .withoutGaps s (S .sinkKnown)) (suc i) (omega arith) (node i L) (S .plain .withoutGaps (suc i) (node i L)) (other i L) in
       let z : suc (next t s (suc i) - 1) ≡ next t s (suc i) = omega (arith, n .0) in
-      rw z (omega (arith, way-step (λ v. linkAt b t s v .delay .0) t (S .planted) s (S .sinkSome) (S .sinkKnown) (suc i) (omega arith) (node i L) (other i L)))
+      rw z (omega (arith, way-step (λ v. linkAt b t s v .delay .0) t (S .planted) s (S .sinkSome) (S .sinkKnown) (S .plain .withoutGaps s (S .sinkKnown)) (suc i) (omega arith) (node i L) (S .plain .withoutGaps (suc i) (node i L)) (other i L)))
 
   -- all that the theorem asks of the network and its figures
   pub provisioned : Windows b (lines b t s) N offset → Provisioned N (treeFigures b t s)
@@ -175,12 +177,12 @@ module _ (b : Settings) (C : Checked b) (t : Tree) (s : ℕ) (S : Surveyed t s) 
     intervalPositive = interval-positive b;
     exchangePositive = timed b C .exchangeSome;
     sinkIsNode = omega (arith, S .sinkSome, S .sinkKnown);
-    nextIsNode = λ i L. let n = next-node t (S .planted) s (S .sinkSome) (S .sinkKnown) (suc i) (omega arith) (node i L) (other i L) in omega (arith, n .0, n .1);
+    nextIsNode = λ i L. let n = next-node t (S .planted) s (S .sinkSome) (S .sinkKnown) (S .plain .withoutGaps s (S .sinkKnown)) (suc i) (omega arith) (node i L) (S .plain .withoutGaps (suc i) (node i L)) (other i L) in omega (arith, n .0, n .1);
     windowFits = λ i L. window-fits O i L;
     serves = λ i L. window-serves i L;
     latencyIs = λ i L. latency-is O i L;
-    rateEnters = all-enters (λ a. a .rate .0) (rates-add (timingOf b) t (S .planted)) (treeFigures b t s .rate) (λ i. sym (after-rate (timingOf b) (loadAt b t s (suc i))));
-    burstEnters = all-enters (λ a. a .burst .0) (bursts-add (timingOf b) t (S .planted)) (burstAfter (treeFigures b t s)) (tree-burst-after b t s);
+    rateEnters = all-enters (λ a. a .rate .0) (rates-add (timingOf b) t (S .planted)) (treeFigures b t s .rate) (λ i. sym (leaving-rate (timingOf b) t (suc i) (loadAt b t s (suc i))));
+    burstEnters = all-enters (λ a. a .burst .0) (bursts-add (timingOf b) t (S .planted)) (burstAfter (treeFigures b t s)) (λ i. tree-burst-after b t s i ∙ ap (λ (l : Load). l .burst .0) (sym (link-crossed (timingOf b) t (S .plain .withoutSummaries) (suc i) (loadAt b t s (suc i)))));
     delayCovers = λ i L. delay-covers i L;
     routeCovers = λ i L. route-covers i L;
   }

@@ -9,7 +9,7 @@ use native.Mathlib.Omega.{arith}
 use lib.Dec.{eqb, leb}
 use borrow.Author.Tests.{eq-eqb, ne-eqb, le-leb, lt-leb}
 use Rattle.network.specs.Counting.{bit}
-use Rattle.tree_model.specs.Tree.{Tree, Planted, sumTo, someTo, isNode, isRouter}
+use Rattle.tree_model.specs.Tree.{Tree, Planted, sumTo, someTo, isNumber, isRouter}
 use Rattle.tree_model.specs.Ways.{depthBy, depthOf}
 
 -- ---- routers
@@ -50,16 +50,16 @@ unfolding isRouter
 no-children t v n e = rw (ne-eqb v 1 n, e)
 
 -- the sink is a node, and a router
-pub sink-low : (t : Tree) (s : ℕ) → s < 1 → false ≡ (isNode t s && isRouter t s)
-unfolding isNode
+pub sink-low : (t : Tree) (s : ℕ) → s < 1 → false ≡ (isNumber t s && isRouter t s)
+unfolding isNumber
 sink-low t s h = rw (lt-leb 1 s h)
 
-pub sink-known : (t : Tree) (s : ℕ) (r : Bool) → 1 ≤ s → s ≤ t .nodes → r ≡ isRouter t s → r ≡ (isNode t s && isRouter t s)
-unfolding isNode
+pub sink-known : (t : Tree) (s : ℕ) (r : Bool) → 1 ≤ s → s ≤ t .nodes → r ≡ isRouter t s → r ≡ (isNumber t s && isRouter t s)
+unfolding isNumber
 sink-known t s r a b e = rw (le-leb 1 s a, le-leb s (t .nodes) b) e
 
-pub sink-high : (t : Tree) (s : ℕ) → 1 ≤ s → t .nodes < s → false ≡ (isNode t s && isRouter t s)
-unfolding isNode
+pub sink-high : (t : Tree) (s : ℕ) → 1 ≤ s → t .nodes < s → false ≡ (isNumber t s && isRouter t s)
+unfolding isNumber
 sink-high t s a h = rw (le-leb 1 s a, lt-leb s (t .nodes) h)
 
 -- numbers that pass a test, and one number more

@@ -145,15 +145,6 @@ module _ (t : Tree) (p : Planted t) (g : ℕ → ℕ) (y : ℕ → ℕ → ℕ)
       rw (le-leb (suc k) (suc k) (le-refl (suc k)), lt-ltb (t .parent (suc k)) (suc k) (p .smaller (suc k) one most)) at (sum-has (λ w. pick (leb (suc k) w && ltb (t .parent w) (suc k)) (low w)) (suc k) (t .nodes) one most) in
       omega (arith, here, forest-rest k (omega arith), all)
 
-  low-root : 1 ≤ t .nodes → low 1 ≡ sumTo g (t .nodes)
-  unfolding forest
-  low-root some =
-      sym (sum-at low 1 (t .nodes) (le-refl 1) some) ∙ sum-ap (λ w. pick (eqb w 1) (low w)) (λ w. pick (leb 1 w && ltb (t .parent w) 1) (low w)) (t .nodes) (λ w a b. by w (ℕ-discrete w 1) a b) ∙ all
-    where
-      by : (w : ℕ) → Dec (w ≡ 1) → 1 ≤ w → w ≤ t .nodes → pick (eqb w 1) (low w) ≡ pick (leb 1 w && ltb (t .parent w) 1) (low w)
-      by w (yes e) a b = rw (eq-eqb w 1 e, le-leb 1 w a, lt-ltb (t .parent w) 1 (omega (arith, p .smaller w a b)))
-      by w (no e) a b = rw (ne-eqb w 1 e, le-leb 1 w a, le-ltb (t .parent w) 1 (p .some w (omega (arith, e)) b))
-
   -- v's children and its parent make what enters v from all sides but c's
   climb-step : (v c : ℕ) → Facing t v c → v < c → y v c + low c ≡ low v + above v
   unfolding kids above low
@@ -181,38 +172,42 @@ module _ (t : Tree) (p : Planted t) (g : ℕ → ℕ) (y : ℕ → ℕ → ℕ)
       by w (no e) (no s) (yes r) q = rw (ne-eqb w c e, ne-eqb (t .parent w) v s, eq-eqb (t .parent v) w r, eq-eqb w (t .parent v) (sym r)) (omega arith)
       by w (no e) (no s) (no r) q = rw (ne-eqb w c e, ne-eqb (t .parent w) v s, ne-eqb (t .parent v) w r, ne-eqb w (t .parent v) (λ d. r (sym d)))
 
-  above-root : above 1 ≡ 0
+  above-none : (v : ℕ) → t .parent v ≡ 0 → above v ≡ 0
   unfolding above
-  above-root = sum-none (λ w. y w 1) (t .parent 1) (t .nodes) (λ l. omega (arith, p .root))
+  above-none v e = sum-none (λ w. y w v) (t .parent v) (t .nodes) (λ l. absurd (omega (arith, e)))
 
-  above-one : (v : ℕ) → 2 ≤ v → v ≤ t .nodes → above v ≡ y (t .parent v) v
+  above-one : (v : ℕ) → 1 ≤ t .parent v → v ≤ t .nodes → 1 ≤ v → above v ≡ y (t .parent v) v
   unfolding above
-  above-one v two most = sum-at (λ w. y w v) (t .parent v) (t .nodes) (p .some v two most) (omega (arith, p .smaller v (omega arith) most))
+  above-one v some most one = sum-at (λ w. y w v) (t .parent v) (t .nodes) some (omega (arith, p .smaller v one most))
 
-  facing-down : (v : ℕ) → 2 ≤ v → v ≤ t .nodes → Facing t (t .parent v) v
-  facing-down v two most =
-      let l : t .parent v < v = p .smaller v (omega arith) most in
-      record { node = p .some v two most; known = omega arith; apart = λ e. omega arith; up = λ a b. absurd (omega arith); down = λ a. refl; knownFrom = most }
+  facing-down : (v : ℕ) → 1 ≤ t .parent v → v ≤ t .nodes → 1 ≤ v → Facing t (t .parent v) v
+  facing-down v some most one =
+      let l : t .parent v < v = p .smaller v one most in
+      record { node = some; known = omega arith; apart = λ e. omega arith; up = λ a b. absurd (omega arith); down = λ a. refl; knownFrom = most }
 
-  -- above v and below it is all there is
-  whole : (m v : ℕ) → v ≤ m → 1 ≤ v → v ≤ t .nodes → low v + above v ≡ sumTo g (t .nodes)
+  -- above v and below it is at most all there is
+  whole : (m v : ℕ) → v ≤ m → 1 ≤ v → v ≤ t .nodes → low v + above v ≤ sumTo g (t .nodes)
   whole zero v h one most = absurd (omega arith)
-  whole (suc m) v h one most = by (decLe v 1) (λ u a b c. whole m u a b c)
+  whole (suc m) v h one most = by (decLe 1 (t .parent v)) (λ u a b c. whole m u a b c)
     where
-      by : Dec (v ≤ 1) → ((u : ℕ) → u ≤ m → 1 ≤ u → u ≤ t .nodes → low u + above u ≡ sumTo g (t .nodes)) → low v + above v ≡ sumTo g (t .nodes)
-      by (yes l) ih = let e : v ≡ 1 = omega arith in rw e (omega (arith, low-root (omega arith), above-root))
-      by (no l) ih =
-          let two : 2 ≤ v = omega arith in
+      by : Dec (1 ≤ t .parent v) → ((u : ℕ) → u ≤ m → 1 ≤ u → u ≤ t .nodes → low u + above u ≤ sumTo g (t .nodes)) → low v + above v ≤ sumTo g (t .nodes)
+      by (no l) ih = omega (arith, low-within v one most, above-none v (omega arith))
+      by (yes some) ih =
           let less : t .parent v < v = p .smaller v one most in
-          omega (arith, above-one v two most, climb-step (t .parent v) v (facing-down v two most) less, ih (t .parent v) (omega arith) (p .some v two most) (omega arith))
+          omega (arith, above-one v some most one, climb-step (t .parent v) v (facing-down v some most one) less, ih (t .parent v) (omega arith) some (omega arith))
 
-  -- all that is made anywhere enters the sink
-  pub at-sink : (v : ℕ) → 1 ≤ v → v ≤ t .nodes → y v 0 ≡ sumTo g (t .nodes)
+  -- no more enters the sink than is made anywhere
+  at-sink : (v : ℕ) → 1 ≤ v → v ≤ t .nodes → y v 0 ≤ sumTo g (t .nodes)
   unfolding kids above low
-  at-sink v one most =
-      exact v 0 face ∙ (ap (λ (x : ℕ). g v + x) (sum-ap (λ w. pick (feeds t v 0 w) (y w v)) (λ w. pick (eqb (t .parent w) v) (low w) + pick (eqb w (t .parent v)) (y w v)) (t .nodes)
-      (λ w a b. by w (ℕ-discrete (t .parent w) v) (ℕ-discrete (t .parent v) w) a (p .smaller w a b)))
-      ∙ omega (arith, whole v v (le-refl v) one most, low-step v one most, sum-add (λ w. pick (eqb (t .parent w) v) (low w)) (λ w. pick (eqb w (t .parent v)) (y w v)) (t .nodes)))
+  at-sink v one most = omega (
+    arith,
+    exact v 0 face,
+    sum-ap (λ w. pick (feeds t v 0 w) (y w v)) (λ w. pick (eqb (t .parent w) v) (low w) + pick (eqb w (t .parent v)) (y w v)) (t .nodes)
+        (λ w a b. by w (ℕ-discrete (t .parent w) v) (ℕ-discrete (t .parent v) w) a (p .smaller w a b)),
+    whole v v (le-refl v) one most,
+    low-step v one most,
+    sum-add (λ w. pick (eqb (t .parent w) v) (low w)) (λ w. pick (eqb w (t .parent v)) (y w v)) (t .nodes),
+  )
     where
       h : t .parent v < v
       h = p .smaller v one most

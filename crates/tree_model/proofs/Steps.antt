@@ -10,9 +10,9 @@ use lib.Dec.{eqb, ltb}
 use borrow.Author.Tests.{eqb-true, eqb-false, eq-eqb, ne-eqb, lt-ltb, le-ltb}
 use Rattle.links.specs.declared.Load.{Load}
 use Rattle.links.specs.declared.Timing.{Timing}
-use Rattle.links.specs.Link.{plus, after}
+use Rattle.links.specs.Link.{plus}
 use Rattle.tree_model.specs.Tree.{Tree, feeds, Planted, Facing}
-use Rattle.tree_model.specs.Loads.{none, sensed, gather, inputBy, outputBy, steps, inputOf, outputOf}
+use Rattle.tree_model.specs.Loads.{none, sensed, leaving, gather, inputBy, outputBy, steps, inputOf, outputOf}
 
 -- the neighbour w of v is a child, or the parent
 pub record Child (t : Tree) (v w : ℕ) : Type 0 where
@@ -111,16 +111,16 @@ module _ (a : Timing) (t : Tree) (p : Planted t) where
       (λ w one most. by w (feeds t v from w) (λ e. enough m k j w v (faces t p v from w f one most e) (omega (arith, falls t p v from w f one most e)) (omega arith) (omega arith)) refl)
     where
       by : (w : ℕ) (b : Bool) → (feeds t v from w ≡ true → inputBy k a t w v ≡ inputBy j a t w v) → feeds t v from w ≡ b → outputBy (suc k) b a t w v ≡ outputBy (suc j) b a t w v
-      by w true h e = ap (after a) (h e)
+      by w true h e = ap (leaving a t w) (h e)
       by w false h e = refl
 
   module _ (v from : ℕ) (f : Facing t v from) where
-    output-at : (k : ℕ) → 4 * t .nodes + 6 ≤ k → outputBy (suc k) true a t v from ≡ after a (inputBy (suc k) a t v from)
+    output-at : (k : ℕ) → 4 * t .nodes + 6 ≤ k → outputBy (suc k) true a t v from ≡ leaving a t v (inputBy (suc k) a t v from)
     unfolding outputBy
-    output-at k h = ap (after a) (enough (2 * t .nodes + 3) k (suc k) v from f (omega (arith, most-remains t p v from f)) (omega arith) (omega arith))
+    output-at k h = ap (leaving a t v) (enough (2 * t .nodes + 3) k (suc k) v from f (omega (arith, most-remains t p v from f)) (omega arith) (omega arith))
 
     -- what leaves a link is the input of the node that sends, after the link
-    pub output-step : outputOf a t v from ≡ after a (inputOf a t v from)
+    pub output-step : outputOf a t v from ≡ leaving a t v (inputOf a t v from)
     output-step =
         let z : steps t ≡ suc (4 * t .nodes + 7) = omega arith in
         rw z (output-at (4 * t .nodes + 7) (omega arith))
@@ -134,7 +134,7 @@ module _ (a : Timing) (t : Tree) (p : Planted t) where
         by : (w : ℕ) → 1 ≤ w → w ≤ t .nodes → (b : Bool) → feeds t v from w ≡ b → outputBy (suc k) b a t w v ≡ offered b (outputBy (suc (suc k)) true a t w v)
         by w one most true e =
             let g = faces t p v from w f one most e in
-            ap (after a) (enough (2 * t .nodes + 3) k (suc k) w v g (omega (arith, most-remains t p w v g)) (omega arith) (omega arith))
+            ap (leaving a t w) (enough (2 * t .nodes + 3) k (suc k) w v g (omega (arith, most-remains t p w v g)) (omega arith) (omega arith))
         by w one most false e = refl
 
     -- what enters a node is what its own sensor makes and what leaves the links of all its neighbours but the one towards the sink

@@ -19,6 +19,7 @@ use Rattle.tree_model.specs.Promise.{networkOf, Windows, Readings}
 use Rattle.tree_model.specs.Laws.{Surveyed}
 use Rattle.tree_model.specs.Examples.{nodeColumns, table}
 use Rattle.tree_model.specs.Witness.{shorter, twoHops, hopOffsets, hopNetwork, lateReading, TwoLinks}
+use Rattle.tree_model.proofs.PlainLists.{plain-list-surveyed}
 use Rattle.tree_model.proofs.Computing.{trees, runs, printed-line}
 
 -- to unfold `witness` is to unfold all that it is computed with
@@ -34,21 +35,15 @@ three P a b c (suc (suc (suc i))) h = absurd (omega arith)
 
 hop-surveyed : Surveyed twoHops 1
 unfolding twoHops
-hop-surveyed = record {
-  planted = record {
-    few = lit≤ tt;
-    root = refl;
-    some = λ v h most. node (λ v. 2 ≤ v → 1 ≤ twoHops .parent v) (λ h. absurd (omega arith)) (λ h. lit≤ tt) (λ h. lit≤ tt) v (omega arith) most h;
-    smaller = node _ (lit< tt) (lit< tt) (lit< tt);
-  };
-  ranged = record {
-    bursts = node _ (lit≤ tt) (lit≤ tt) (lit≤ tt);
-    rates = node _ (lit≤ tt) (lit≤ tt) (lit≤ tt);
-    both = node _ (λ z. refl) (λ z. refl) (λ z. absurd (omega (arith, z)));
-  };
-  sinkSome = lit≤ tt;
-  sinkKnown = lit≤ tt;
-}
+hop-surveyed = plain-list-surveyed (0 ∷ 0 ∷ 1 ∷ 2 ∷ []) (0 ∷ 0 ∷ 0 ∷ 1 ∷ []) (0 ∷ 0 ∷ 0 ∷ 7 ∷ []) 1
+    (record { few = lit≤ tt; root = refl; parents = λ v two most. node (λ v. 2 ≤ v → (1 ≤ twoHops .parent v) × (twoHops .parent v < v)) (λ h. absurd (omega arith)) (λ h. (lit≤ tt, lit< tt)) (λ h. (lit≤ tt, lit< tt)) v (omega arith) most two })
+    (record {
+      bursts = node _ (lit≤ tt) (lit≤ tt) (lit≤ tt);
+      rates = node _ (lit≤ tt) (lit≤ tt) (lit≤ tt);
+      both = node _ (λ z. refl) (λ z. refl) (λ z. absurd (omega (arith, z)));
+    })
+    (lit≤ tt)
+    (lit≤ tt)
   where
     node : (P : ℕ → Type 0) → P 1 → P 2 → P 3 → (v : ℕ) → 1 ≤ v → v ≤ 3 → P v
     node P a b c zero one most = absurd (omega arith)

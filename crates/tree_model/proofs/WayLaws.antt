@@ -8,7 +8,7 @@ use native.Mathlib.Omega.{arith}
 use native.Mathlib.Decide.{decLe, ℕ-discrete}
 use lib.Dec.{eqb, ltb, leb}
 use borrow.Author.Tests.{eq-eqb, ne-eqb, lt-ltb, le-ltb, le-leb, lt-leb}
-use Rattle.tree_model.specs.Tree.{Tree, feeds, Planted, Facing}
+use Rattle.tree_model.specs.Tree.{Tree, feeds, Planted, NoGap, Facing}
 use Rattle.tree_model.proofs.Steps as steps
 use Rattle.tree_model.specs.Ways.{childBy, below, orElse, next, superframeBy, superframeOf, Beyond, here, there}
 
@@ -21,11 +21,11 @@ feeds-yes t v from w n (inr e) = by (eqb (t .parent w) v)
     by false = rw (ne-eqb w from n, eq-eqb (t .parent v) w e)
 
 module _ (t : Tree) (p : Planted t) where
-  child-found : (k c v : ℕ) → t .parent (suc c) ≡ v → childBy (suc k) t (suc c) v ≡ suc c
+  pub child-found : (k c v : ℕ) → t .parent (suc c) ≡ v → childBy (suc k) t (suc c) v ≡ suc c
   unfolding childBy
   child-found k c v e = rw (eq-eqb (t .parent (suc c)) v e, childBy)
 
-  child-on : (k c v : ℕ) → (t .parent (suc c) ≡ v → ⊥) → childBy (suc k) t (suc c) v ≡ childBy k t (t .parent (suc c)) v
+  pub child-on : (k c v : ℕ) → (t .parent (suc c) ≡ v → ⊥) → childBy (suc k) t (suc c) v ≡ childBy k t (t .parent (suc c)) v
   unfolding childBy
   child-on k c v e = rw (ne-eqb (t .parent (suc c)) v e, childBy)
 
@@ -90,7 +90,7 @@ module _ (t : Tree) (p : Planted t) where
     unfolding next
     at-sink = rw (eq-eqb s s refl, next)
 
-    next-else : (v : ℕ) → (v ≡ s → ⊥) → next t s v ≡ orElse (childBy (t .nodes) t s v) (t .parent v)
+    pub next-else : (v : ℕ) → (v ≡ s → ⊥) → next t s v ≡ orElse (childBy (t .nodes) t s v) (t .parent v)
     unfolding next below
     next-else v n = rw (ne-eqb v s n, next)
 
@@ -168,127 +168,152 @@ module _ (t : Tree) (p : Planted t) where
         by (yes e) (yes q) = let z : u ≡ 0 = e ∙ ap (next t s) (sym q) ∙ at-sink in absurd (omega arith)
         by (yes e) (no m) = rw e (beyond-back s v s-one s-known m r)
 
-    beyond-root : (m c : ℕ) → c ≤ m → 1 ≤ c → c ≤ t .nodes → Beyond t s s c → Beyond t s s 1
-    beyond-root zero c h c1 cn r = absurd (omega arith)
-    beyond-root (suc m) c h c1 cn r = by (decLe c 1) (λ x y z q. beyond-root m (t .parent c) x y z q)
-      where
-        less : t .parent c < c
-        less = p .smaller c c1 cn
-
-        by : Dec (c ≤ 1) → (t .parent c ≤ m → 1 ≤ t .parent c → t .parent c ≤ t .nodes → Beyond t s s (t .parent c) → Beyond t s s 1) → Beyond t s s 1
-        by (yes l) ih = let e : c ≡ 1 = omega arith in rw e at r
-        by (no l) ih =
-            let some : 1 ≤ t .parent c = p .some c (omega arith) cn in
-            ih (omega (arith, less)) some (omega (arith, less)) (beyond-near c (t .parent c) c1 cn some (omega (arith, less)) r (inr refl))
-
-    beyond-all : (m u : ℕ) → u ≤ m → 1 ≤ u → u ≤ t .nodes → Beyond t s s u
-    beyond-all zero u h u1 un = absurd (omega arith)
-    beyond-all (suc m) u h u1 un = by (decLe u 1) (λ x y z. beyond-all m (t .parent u) x y z)
-      where
-        less : t .parent u < u
-        less = p .smaller u u1 un
-
-        by : Dec (u ≤ 1) → (t .parent u ≤ m → 1 ≤ t .parent u → t .parent u ≤ t .nodes → Beyond t s s (t .parent u)) → Beyond t s s u
-        by (yes l) ih = let e : u ≡ 1 = omega arith in rw e (beyond-root s s (le-refl s) s-one s-known here)
-        by (no l) ih =
-            let some : 1 ≤ t .parent u = p .some u (omega arith) un in
-            beyond-near (t .parent u) u some (omega (arith, less)) u1 un (ih (omega (arith, less)) some (omega (arith, less))) (inl refl)
-
-    -- every node lies beyond the sink
-    pub every : (u : ℕ) → 1 ≤ u → u ≤ t .nodes → Beyond t s s u
-    every u u1 un = beyond-all u u (le-refl u) u1 un
-
-    -- ---- a node and its neighbour towards the sink
-
     pub facing-sink : Facing t s 0
     facing-sink = record { node = s-one; known = s-known; apart = λ e. omega arith; up = λ a b. absurd (omega arith); down = λ a. absurd (omega arith); knownFrom = omega arith }
 
-    facing-beyond : (v u : ℕ) → Facing t v (next t s v) → Beyond t s v u → Facing t u (next t s u)
-    facing-beyond v u f here = f
-    facing-beyond v u f (there w a b g r) =
-        let n : next t s w ≡ v = next-step v w (f .node) (f .known) a b g in
-        facing-beyond w u (rw n (steps.faces t p v (next t s v) w f a b g)) r
+    -- ---- the sink is a node, and so every node lies beyond it
 
-    -- a node faces its neighbour towards the sink
-    pub facing : (u : ℕ) → 1 ≤ u → u ≤ t .nodes → Facing t u (next t s u)
-    facing u a b = facing-beyond s u (rw at-sink facing-sink) (every u a b)
+    module _ (s-node : NoGap t s) where
+      beyond-root : (m c : ℕ) → c ≤ m → 1 ≤ c → c ≤ t .nodes → NoGap t c → Beyond t s s c → Beyond t s s 1
+      beyond-root zero c h c1 cn k r = absurd (omega arith)
+      beyond-root (suc m) c h c1 cn k r = by (decLe c 1) (λ x y z i q. beyond-root m (t .parent c) x y z i q)
+        where
+          less : t .parent c < c
+          less = p .smaller c c1 cn
 
-    fed-beyond : (v u : ℕ) → 1 ≤ v → v ≤ t .nodes → (v ≡ u → ⊥) → Beyond t s v u → feeds t (next t s u) (next t s (next t s u)) u ≡ true
-    fed-beyond v u v1 vn m here = absurd (m refl)
-    fed-beyond v u v1 vn m (there w a b g r) = by (ℕ-discrete w u) (λ k. fed-beyond w u a b k r)
-      where
-        n : next t s w ≡ v
-        n = next-step v w v1 vn a b g
+          by : Dec (c ≤ 1) → (t .parent c ≤ m → 1 ≤ t .parent c → t .parent c ≤ t .nodes → NoGap t (t .parent c) → Beyond t s s (t .parent c) → Beyond t s s 1) → Beyond t s s 1
+          by (yes l) ih = let e : c ≡ 1 = omega arith in rw e at r
+          by (no l) ih =
+              let some : 1 ≤ t .parent c = k (omega arith) in
+              ih (omega (arith, less)) some (omega (arith, less)) (p .listed c c1 cn) (beyond-near c (t .parent c) c1 cn some (omega (arith, less)) r (inr refl))
 
-        by : Dec (w ≡ u) → ((w ≡ u → ⊥) → feeds t (next t s u) (next t s (next t s u)) u ≡ true) → feeds t (next t s u) (next t s (next t s u)) u ≡ true
-        by (yes e) ih = subst (λ (x : ℕ). feeds t (next t s x) (next t s (next t s x)) x ≡ true) e (rw n g)
-        by (no k) ih = ih k
+      beyond-all : (m u : ℕ) → u ≤ m → 1 ≤ u → u ≤ t .nodes → NoGap t u → Beyond t s s u
+      beyond-all zero u h u1 un k = absurd (omega arith)
+      beyond-all (suc m) u h u1 un k = by (decLe u 1) (λ x y z i. beyond-all m (t .parent u) x y z i)
+        where
+          less : t .parent u < u
+          less = p .smaller u u1 un
 
-    -- and is among those that feed it
-    pub fed : (u : ℕ) → 1 ≤ u → u ≤ t .nodes → (u ≡ s → ⊥) → feeds t (next t s u) (next t s (next t s u)) u ≡ true
-    fed u a b m = fed-beyond s u s-one s-known (λ e. m (sym e)) (every u a b)
+          by : Dec (u ≤ 1) → (t .parent u ≤ m → 1 ≤ t .parent u → t .parent u ≤ t .nodes → NoGap t (t .parent u) → Beyond t s s (t .parent u)) → Beyond t s s u
+          by (yes l) ih = let e : u ≡ 1 = omega arith in rw e (beyond-root s s (le-refl s) s-one s-known s-node here)
+          by (no l) ih =
+              let some : 1 ≤ t .parent u = k (omega arith) in
+              beyond-near (t .parent u) u some (omega (arith, less)) u1 un (ih (omega (arith, less)) some (omega (arith, less)) (p .listed u u1 un)) (inl refl)
 
-    next-beyond : (v u : ℕ) → 1 ≤ v → v ≤ t .nodes → (v ≡ u → ⊥) → Beyond t s v u → (1 ≤ next t s u) × (next t s u ≤ t .nodes)
-    next-beyond v u v1 vn m here = absurd (m refl)
-    next-beyond v u v1 vn m (there w a b g r) = by (ℕ-discrete w u) (λ k. next-beyond w u a b k r)
-      where
-        n : next t s w ≡ v
-        n = next-step v w v1 vn a b g
+      -- every node lies beyond the sink
+      pub every : (u : ℕ) → 1 ≤ u → u ≤ t .nodes → NoGap t u → Beyond t s s u
+      every u u1 un k = beyond-all u u (le-refl u) u1 un k
 
-        by : Dec (w ≡ u) → ((w ≡ u → ⊥) → (1 ≤ next t s u) × (next t s u ≤ t .nodes)) → (1 ≤ next t s u) × (next t s u ≤ t .nodes)
-        by (yes e) ih = subst (λ (x : ℕ). (1 ≤ next t s x) × (next t s x ≤ t .nodes)) e (rw n (v1, vn))
-        by (no k) ih = ih k
+      -- ---- a node and its neighbour towards the sink
 
-    -- which is a node
-    pub next-node : (u : ℕ) → 1 ≤ u → u ≤ t .nodes → (u ≡ s → ⊥) → (1 ≤ next t s u) × (next t s u ≤ t .nodes)
-    next-node u a b m = next-beyond s u s-one s-known (λ e. m (sym e)) (every u a b)
+      facing-beyond : (v u : ℕ) → Facing t v (next t s v) → Beyond t s v u → Facing t u (next t s u)
+      facing-beyond v u f here = f
+      facing-beyond v u f (there w a b g r) =
+          let n : next t s w ≡ v = next-step v w (f .node) (f .known) a b g in
+          facing-beyond w u (rw n (steps.faces t p v (next t s v) w f a b g)) r
 
-    -- ---- the links that are left to the sink
+      -- a node faces its neighbour towards the sink
+      pub facing : (u : ℕ) → 1 ≤ u → u ≤ t .nodes → NoGap t u → Facing t u (next t s u)
+      facing u a b k = facing-beyond s u (rw at-sink facing-sink) (every u a b k)
 
-    abbrev pub left : ℕ → ℕ
-    left u = 2 * (t .nodes + 1) - steps.remaining t u (next t s u)
+      fed-beyond : (v u : ℕ) → 1 ≤ v → v ≤ t .nodes → (v ≡ u → ⊥) → Beyond t s v u → feeds t (next t s u) (next t s (next t s u)) u ≡ true
+      fed-beyond v u v1 vn m here = absurd (m refl)
+      fed-beyond v u v1 vn m (there w a b g r) = by (ℕ-discrete w u) (λ k. fed-beyond w u a b k r)
+        where
+          n : next t s w ≡ v
+          n = next-step v w v1 vn a b g
 
-    pub left-falls : (u : ℕ) → 1 ≤ u → u ≤ t .nodes → (u ≡ s → ⊥) → left (next t s u) < left u
-    left-falls u a b m =
-        let n = next-node u a b m in
-        let f = facing (next t s u) (n .0) (n .1) in
-        let l : steps.remaining t u (next t s u) < steps.remaining t (next t s u) (next t s (next t s u)) =
-        steps.falls t p (next t s u) (next t s (next t s u)) u f a b (fed u a b m) in
-        omega (arith, l, steps.most-remains t p (next t s u) (next t s (next t s u)) f)
+          by : Dec (w ≡ u) → ((w ≡ u → ⊥) → feeds t (next t s u) (next t s (next t s u)) u ≡ true) → feeds t (next t s u) (next t s (next t s u)) u ≡ true
+          by (yes e) ih = subst (λ (x : ℕ). feeds t (next t s x) (next t s (next t s x)) x ≡ true) e (rw n g)
+          by (no k) ih = ih k
 
-    pub left-most : (u : ℕ) → left u ≤ 2 * (t .nodes + 1)
-    left-most u = omega arith
+      -- and is among those that feed it
+      pub fed : (u : ℕ) → 1 ≤ u → u ≤ t .nodes → NoGap t u → (u ≡ s → ⊥) → feeds t (next t s u) (next t s (next t s u)) u ≡ true
+      fed u a b k m = fed-beyond s u s-one s-known (λ e. m (sym e)) (every u a b k)
 
-    -- ---- whose superframe a link lies in
+      next-beyond : (v u : ℕ) → 1 ≤ v → v ≤ t .nodes → (v ≡ u → ⊥) → Beyond t s v u → (1 ≤ next t s u) × (next t s u ≤ t .nodes)
+      next-beyond v u v1 vn m here = absurd (m refl)
+      next-beyond v u v1 vn m (there w a b g r) = by (ℕ-discrete w u) (λ k. next-beyond w u a b k r)
+        where
+          n : next t s w ≡ v
+          n = next-step v w v1 vn a b g
 
-    -- a router's own, where the sink lies below it, and else its parent's
-    next-none : (v : ℕ) → (v ≡ s → ⊥) → below t s v ≡ 0 → next t s v ≡ t .parent v
-    unfolding below
-    next-none v m e = next-up v m e
+          by : Dec (w ≡ u) → ((w ≡ u → ⊥) → (1 ≤ next t s u) × (next t s u ≤ t .nodes)) → (1 ≤ next t s u) × (next t s u ≤ t .nodes)
+          by (yes e) ih = subst (λ (x : ℕ). (1 ≤ next t s x) × (next t s x ≤ t .nodes)) e (rw n (v1, vn))
+          by (no k) ih = ih k
 
-    pub superframe-node : (v : ℕ) → 1 ≤ v → v ≤ t .nodes → (v ≡ s → ⊥) → (1 ≤ superframeOf t s v) × (superframeOf t s v ≤ t .nodes)
-    unfolding superframeOf
-    superframe-node v one most m = by (below t s v) refl
-      where
-        by : (c : ℕ) → below t s v ≡ c → (1 ≤ superframeBy c v (t .parent v)) × (superframeBy c v (t .parent v) ≤ t .nodes)
-        by zero e = let z : next t s v ≡ t .parent v = next-none v m e in rw z at (next-node v one most m)
-        by (suc c) e = (one, most)
+      -- which is a node
+      pub next-node : (u : ℕ) → 1 ≤ u → u ≤ t .nodes → NoGap t u → (u ≡ s → ⊥) → (1 ≤ next t s u) × (next t s u ≤ t .nodes)
+      next-node u a b k m = next-beyond s u s-one s-known (λ e. m (sym e)) (every u a b k)
 
-    -- the sink lies below a node exactly where its neighbour towards the sink has a larger number
-    pub leads-down : (v : ℕ) → 1 ≤ v → v ≤ t .nodes → (v ≡ s → ⊥) → ltb v (next t s v) ≡ leb 1 (below t s v)
-    unfolding below
-    leads-down v one most m = by (decLe 1 (childBy (t .nodes) t s v))
-      where
-        by : Dec (1 ≤ childBy (t .nodes) t s v) → ltb v (next t s v) ≡ leb 1 (childBy (t .nodes) t s v)
-        by (yes h) = rw (next-below v (childBy (t .nodes) t s v) m h refl, le-leb 1 (childBy (t .nodes) t s v) h) (lt-ltb v (childBy (t .nodes) t s v) (child-more (t .nodes) s v s-known h))
-        by (no h) =
-            let less : t .parent v < v = p .smaller v one most in
-            rw (next-up v m (omega arith), lt-leb 1 (childBy (t .nodes) t s v) (omega arith)) (le-ltb v (t .parent v) (omega (arith, less)))
+      -- where it leads is a node too
+      near-no-gap : (v from w : ℕ) → 1 ≤ v → v ≤ t .nodes → NoGap t v → feeds t v from w ≡ true → NoGap t w
+      near-no-gap v from w v1 vn k g = by (steps.next t v from w g .side)
+        where
+          by : (t .parent w ≡ v) ⊎ (t .parent v ≡ w) → NoGap t w
+          by (inl e) two = omega (arith, e, v1)
+          by (inr e) two = subst (λ (x : ℕ). 1 ≤ t .parent x) e (p .listed v v1 vn (omega (arith, e, two)))
 
-    pub superframe-led : (v : ℕ) → 1 ≤ v → v ≤ t .nodes → (v ≡ s → ⊥) → cond (ltb v (next t s v)) v (t .parent v) ≡ superframeOf t s v
-    unfolding superframeOf
-    superframe-led v one most m = rw (leads-down v one most m) (by (below t s v))
-      where
-        by : (c : ℕ) → cond (leb 1 c) v (t .parent v) ≡ superframeBy c v (t .parent v)
-        by zero = refl
-        by (suc c) = rw (le-leb 1 (suc c) (omega arith))
+      beyond-no-gap : (v u : ℕ) → 1 ≤ v → v ≤ t .nodes → NoGap t v → (v ≡ u → ⊥) → Beyond t s v u → NoGap t (next t s u)
+      beyond-no-gap v u v1 vn k m here = absurd (m refl)
+      beyond-no-gap v u v1 vn k m (there w a b g r) = by (ℕ-discrete w u) (λ i. beyond-no-gap w u a b (near-no-gap v (next t s v) w v1 vn k g) i r)
+        where
+          n : next t s w ≡ v
+          n = next-step v w v1 vn a b g
+
+          by : Dec (w ≡ u) → ((w ≡ u → ⊥) → NoGap t (next t s u)) → NoGap t (next t s u)
+          by (yes e) ih = subst (λ (x : ℕ). NoGap t (next t s x)) e (subst (NoGap t) (sym n) k)
+          by (no i) ih = ih i
+
+      pub next-no-gap : (u : ℕ) → 1 ≤ u → u ≤ t .nodes → NoGap t u → (u ≡ s → ⊥) → NoGap t (next t s u)
+      next-no-gap u a b k m = beyond-no-gap s u s-one s-known s-node (λ e. m (sym e)) (every u a b k)
+
+      -- ---- the links that are left to the sink
+
+      abbrev pub left : ℕ → ℕ
+      left u = 2 * (t .nodes + 1) - steps.remaining t u (next t s u)
+
+      pub left-falls : (u : ℕ) → 1 ≤ u → u ≤ t .nodes → NoGap t u → (u ≡ s → ⊥) → left (next t s u) < left u
+      left-falls u a b k m =
+          let n = next-node u a b k m in
+          let f = facing (next t s u) (n .0) (n .1) (next-no-gap u a b k m) in
+          let l : steps.remaining t u (next t s u) < steps.remaining t (next t s u) (next t s (next t s u)) =
+          steps.falls t p (next t s u) (next t s (next t s u)) u f a b (fed u a b k m) in
+          omega (arith, l, steps.most-remains t p (next t s u) (next t s (next t s u)) f)
+
+      pub left-most : (u : ℕ) → left u ≤ 2 * (t .nodes + 1)
+      left-most u = omega arith
+
+      -- ---- whose superframe a link lies in
+
+      -- a router's own, where the sink lies below it, and else its parent's
+      next-none : (v : ℕ) → (v ≡ s → ⊥) → below t s v ≡ 0 → next t s v ≡ t .parent v
+      unfolding below
+      next-none v m e = next-up v m e
+
+      pub superframe-node : (v : ℕ) → 1 ≤ v → v ≤ t .nodes → NoGap t v → (v ≡ s → ⊥) → (1 ≤ superframeOf t s v) × (superframeOf t s v ≤ t .nodes)
+      unfolding superframeOf
+      superframe-node v one most k m = by (below t s v) refl
+        where
+          by : (c : ℕ) → below t s v ≡ c → (1 ≤ superframeBy c v (t .parent v)) × (superframeBy c v (t .parent v) ≤ t .nodes)
+          by zero e = let z : next t s v ≡ t .parent v = next-none v m e in rw z at (next-node v one most k m)
+          by (suc c) e = (one, most)
+
+      -- the sink lies below a node exactly where its neighbour towards the sink has a larger number
+      pub leads-down : (v : ℕ) → 1 ≤ v → v ≤ t .nodes → (v ≡ s → ⊥) → ltb v (next t s v) ≡ leb 1 (below t s v)
+      unfolding below
+      leads-down v one most m = by (decLe 1 (childBy (t .nodes) t s v))
+        where
+          by : Dec (1 ≤ childBy (t .nodes) t s v) → ltb v (next t s v) ≡ leb 1 (childBy (t .nodes) t s v)
+          by (yes h) = rw (next-below v (childBy (t .nodes) t s v) m h refl, le-leb 1 (childBy (t .nodes) t s v) h) (lt-ltb v (childBy (t .nodes) t s v) (child-more (t .nodes) s v s-known h))
+          by (no h) =
+              let less : t .parent v < v = p .smaller v one most in
+              rw (next-up v m (omega arith), lt-leb 1 (childBy (t .nodes) t s v) (omega arith)) (le-ltb v (t .parent v) (omega (arith, less)))
+
+      pub superframe-led : (v : ℕ) → 1 ≤ v → v ≤ t .nodes → (v ≡ s → ⊥) → cond (ltb v (next t s v)) v (t .parent v) ≡ superframeOf t s v
+      unfolding superframeOf
+      superframe-led v one most m = rw (leads-down v one most m) (by (below t s v))
+        where
+          by : (c : ℕ) → cond (leb 1 c) v (t .parent v) ≡ superframeBy c v (t .parent v)
+          by zero = refl
+          by (suc c) = rw (le-leb 1 (suc c) (omega arith))

@@ -1,7 +1,7 @@
 -- The witness of demand 3's hypotheses (specs/Witness): a tree with its sink below the root. Assumes nothing.
 use mathlib.Core.Path.{_≡_, refl, ap}
 use mathlib.Core.Bool.{Bool, true, false, cond, _&&_}
-use mathlib.Core.List.{_∷_}
+use mathlib.Core.List.{[], _∷_}
 use Prim.Native.Nat.{ℕ, zero, suc, _+_, _*_, _≤_, _<_}
 use native.Mathlib.Nat.{mul-le-mul-right}
 use native.Mathlib.Omega.{arith}
@@ -19,6 +19,7 @@ use Rattle.tree_model.specs.Promise.{networkOf, Windows, Readings}
 use Rattle.tree_model.specs.Laws.{Surveyed}
 use Rattle.tree_model.specs.Examples.{nodeColumns, table}
 use Rattle.tree_model.specs.Witness.{short, tree, offsets, network, readings, Witnessed}
+use Rattle.tree_model.proofs.PlainLists.{plain-list-surveyed}
 use Rattle.tree_model.proofs.Computing.{trees, runs}
 use Rattle.tree_model.proofs.LawsHold.{every-plan-keeps}
 
@@ -45,21 +46,15 @@ node P a b c d e f (suc i) one most = six (λ i. P (suc i)) a b c d e f i (omega
 
 tree-surveyed : Surveyed tree 2
 unfolding tree
-tree-surveyed = record {
-  planted = record {
-    few = lit≤ tt;
-    root = refl;
-    some = λ v two most. node (λ v. 2 ≤ v → 1 ≤ tree .parent v) (λ h. absurd (omega arith)) (λ h. lit≤ tt) (λ h. lit≤ tt) (λ h. lit≤ tt) (λ h. lit≤ tt) (λ h. lit≤ tt) v (omega arith) most two;
-    smaller = node _ (lit< tt) (lit< tt) (lit< tt) (lit< tt) (lit< tt) (lit< tt);
-  };
-  ranged = record {
-    bursts = node _ (lit≤ tt) (lit≤ tt) (lit≤ tt) (lit≤ tt) (lit≤ tt) (lit≤ tt);
-    rates = node _ (lit≤ tt) (lit≤ tt) (lit≤ tt) (lit≤ tt) (lit≤ tt) (lit≤ tt);
-    both = node _ senses senses senses senses senses senses;
-  };
-  sinkSome = lit≤ tt;
-  sinkKnown = lit≤ tt;
-}
+tree-surveyed = plain-list-surveyed (0 ∷ 0 ∷ 1 ∷ 1 ∷ 1 ∷ 2 ∷ 3 ∷ []) (0 ∷ 1 ∷ 2 ∷ 1 ∷ 1 ∷ 1 ∷ 2 ∷ []) (0 ∷ 1 ∷ 1 ∷ 1 ∷ 1 ∷ 1 ∷ 2 ∷ []) 2
+    (record { few = lit≤ tt; root = refl; parents = λ v two most. node (λ v. 2 ≤ v → (1 ≤ tree .parent v) × (tree .parent v < v)) (λ h. absurd (omega arith)) (λ h. (lit≤ tt, lit< tt)) (λ h. (lit≤ tt, lit< tt)) (λ h. (lit≤ tt, lit< tt)) (λ h. (lit≤ tt, lit< tt)) (λ h. (lit≤ tt, lit< tt)) v (omega arith) most two })
+    (record {
+      bursts = node _ (lit≤ tt) (lit≤ tt) (lit≤ tt) (lit≤ tt) (lit≤ tt) (lit≤ tt);
+      rates = node _ (lit≤ tt) (lit≤ tt) (lit≤ tt) (lit≤ tt) (lit≤ tt) (lit≤ tt);
+      both = node _ senses senses senses senses senses senses;
+    })
+    (lit≤ tt)
+    (lit≤ tt)
   where
     senses : {n : ℕ} {A : Type 0} → suc n ≡ 0 → A
     senses z = absurd (omega (arith, z))

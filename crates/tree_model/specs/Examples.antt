@@ -1,14 +1,16 @@
 -- Surveyed trees and their plans, refusals and slots, computed in small tables: what the definitions give, beside what one finds by hand.
 -- Assumes nothing: these are definitions and statements; proofs/ExamplesHold proves them.
 use mathlib.Core.Path.{_≡_}
-use mathlib.Core.Bool.{true, false}
+use mathlib.Core.Bool.{true, false, cond}
 use mathlib.Core.List.{List, [], _∷_, _++_, map}
 use Prim.Native.Nat.{ℕ, suc}
+use lib.Dec.{eqb}
+use lib.ListN.{getD}
 use Rattle.measure.specs.Measures.{slots}
 use Rattle.refusals.specs.declared.Refusal.the-variants.{OutOfRange, AtOdds, Superframes, InTree}
 use Rattle.refusals.specs.declared.TreeRefusal.the-variants.{RouterReservations, RouterSlots}
 use Rattle.refusals.specs.declared.Conflict.the-variants.{Orders, FrameLength, Unacknowledged}
-use Rattle.network.specs.Counting.{join}
+use Rattle.network.specs.Counting.{bit, join}
 use Rattle.settings_model.specs.declared.Settings.{Settings}
 use Rattle.row_model.specs.Lines.{letter}
 use Rattle.row_model.specs.Witness.{columns}
@@ -114,6 +116,61 @@ pub record Branches : Type 0 where
   pub planned : outcomeOf acknowledged branches 4 ≡ Planned (lines acknowledged branches 4)
   -- that of end node 6: no router's ROUTE is as large
   pub largestRoute : longest (lines acknowledged branches 4) ≡ 579962
+
+-- ---- gaps, and branches planned apart (document 02, E12)
+
+-- `branches` without router 3 and its end node 6: numbers 3 and 6 are missing. And the same nodes numbered 1, 2, ..
+unfoldable pub gapped : Tree
+gapped = treeOf
+    (0 ∷ 0 ∷ 1 ∷ 0 ∷ 2 ∷ 2 ∷ 0 ∷ 4 ∷ 7 ∷ 1 ∷ 9 ∷ [])
+    (0 ∷ 0 ∷ 2 ∷ 0 ∷ 1 ∷ 3 ∷ 0 ∷ 2 ∷ 1 ∷ 0 ∷ 0 ∷ [])
+    (0 ∷ 0 ∷ 1 ∷ 0 ∷ 2 ∷ 2 ∷ 0 ∷ 3 ∷ 1 ∷ 0 ∷ 0 ∷ [])
+
+unfoldable pub closedUp : Tree
+closedUp = treeOf (0 ∷ 0 ∷ 1 ∷ 2 ∷ 2 ∷ 3 ∷ 5 ∷ 1 ∷ 7 ∷ []) (0 ∷ 0 ∷ 2 ∷ 1 ∷ 3 ∷ 2 ∷ 1 ∷ 0 ∷ 0 ∷ []) (0 ∷ 0 ∷ 1 ∷ 2 ∷ 2 ∷ 3 ∷ 1 ∷ 0 ∷ 0 ∷ [])
+
+-- t with a branch planned apart, a router c and its end node d: c stands for the branch, whose summary is this rate, this burst and one router,
+-- and d is missing
+unfoldable pub apart : Tree → ℕ → ℕ → ℕ → ℕ → Tree
+apart t c d rate burst = record {
+  nodes = t .nodes;
+  parent = λ v. cond (eqb v d) 0 (t .parent v);
+  burst = λ v. cond (eqb v d) 0 (cond (eqb v c) burst (t .burst v));
+  rate = λ v. cond (eqb v d) 0 (cond (eqb v c) rate (t .rate v));
+  summary = λ v. eqb v c;
+  inside = λ v. bit (eqb v c);
+}
+
+-- Router 3 hangs below the root, on the sink's path: its line in the whole has RATE 4, BURST 305544 and LATENCY 61026, so 305544 + 4 × 61026
+-- has left its link.
+unfoldable pub loadedApart : Tree
+loadedApart = apart branches 3 6 4 549648
+
+-- of router 9's branch nothing senses
+unfoldable pub silentApart : Tree
+silentApart = apart branches 9 10 0 0
+
+-- the lines of nodes 1 to 10 that stand at these places, from 0
+unfoldable pub linesOfWhole : List ℕ → List (List ℕ)
+linesOfWhole places = map (λ i. getD (table acknowledged branches 4) i []) places
+
+pub record GapsAndSummaries : Type 0 where
+  -- a gap has no line and is no router: all is as if the nodes had other numbers
+  pub gapLines : table acknowledged gapped 4 ≡ table acknowledged closedUp 3
+  pub gapRouters : routers gapped ≡ 5
+  pub gapPlanned : outcomeOf acknowledged gapped 4 ≡ Planned (lines acknowledged gapped 4)
+  -- with a summary every remaining node has the whole's line, and its routers have the whole's reservations and slots
+  pub loadedLines : table acknowledged loadedApart 4 ≡ linesOfWhole (0 ∷ 1 ∷ 3 ∷ 4 ∷ 6 ∷ 7 ∷ 8 ∷ 9 ∷ [])
+  pub loadedReservations : map (reservationsAt acknowledged loadedApart 4) (1 ∷ 2 ∷ 4 ∷ 7 ∷ 9 ∷ []) ≡ 2 ∷ 2 ∷ 1 ∷ 1 ∷ 0 ∷ []
+  pub loadedSlots : map (λ r. usedAt acknowledged loadedApart 4 r .0) (1 ∷ 2 ∷ 4 ∷ 7 ∷ 9 ∷ []) ≡ 6 ∷ 7 ∷ 3 ∷ 1 ∷ 0 ∷ []
+  pub loadedPlanned : outcomeOf acknowledged loadedApart 4 ≡ Planned (lines acknowledged loadedApart 4)
+  -- number 6 counts the branch's router: six, where four superframes fit an interval
+  pub loadedSix : outcomeOf (beside 4 2 19 7 1 0) loadedApart 4 ≡ Refused (Superframes 6 4)
+  pub wholeSix : outcomeOf (beside 4 2 19 7 1 0) branches 4 ≡ Refused (Superframes 6 4)
+  -- a summary of rate 0 has no reservation, and its router counts
+  pub silentLines : table acknowledged silentApart 4 ≡ linesOfWhole (0 ∷ 1 ∷ 2 ∷ 3 ∷ 4 ∷ 5 ∷ 6 ∷ 7 ∷ [])
+  pub silentReservations : map (reservationsAt acknowledged silentApart 4) (1 ∷ 2 ∷ 3 ∷ 4 ∷ 7 ∷ []) ≡ 2 ∷ 2 ∷ 1 ∷ 1 ∷ 1 ∷ []
+  pub silentSix : outcomeOf (beside 4 2 19 7 1 0) silentApart 4 ≡ Refused (Superframes 6 4)
 
 -- ---- tries that may fail (document 02, E5)
 

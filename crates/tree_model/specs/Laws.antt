@@ -3,11 +3,13 @@
 use mathlib.Core.Path.{_≡_}
 use mathlib.Core.Logic.{_↔_}
 use mathlib.Core.Bool.{false}
-use mathlib.Core.List.{List}
-use Prim.Native.Nat.{ℕ, _≤_, _<_, _^_}
+use mathlib.Core.List.{List, [], _∷_}
+use Prim.Native.Nat.{ℕ, suc, _≤_, _<_, _^_}
 use Rattle.superframe_model.specs.Reservation.{Smallest}
-use Rattle.network.specs.Counting.{All}
+use Rattle.network.specs.Counting.{All, bit, join}
+use Rattle.measure.specs.Measures.{frames, burst}
 use Rattle.links.specs.declared.Load.{Load}
+use Rattle.links.specs.Link.{load, after}
 use Rattle.settings_model.specs.declared.Settings.{Settings}
 use Rattle.settings_model.specs.Laws.{Checked}
 use Rattle.row_model.specs.declared.Kind.the-variants.{Sink}
@@ -15,19 +17,47 @@ use Rattle.row_model.specs.Times.{timingOf}
 use Rattle.row_model.specs.Checks.{superframes}
 use Rattle.row_model.specs.Lines.{sameKind}
 use Rattle.tree_model.specs.declared.NodeLine.{NodeLine}
-use Rattle.tree_model.specs.Tree.{Tree, Planted, Ranged, routers}
-use Rattle.tree_model.specs.Lines.{loadAt, lines}
+use Rattle.tree_model.specs.Tree.{Tree, treeOf, Planted, Ranged, Plain, sumTo, isRouter, routers}
+use Rattle.tree_model.specs.Loads.{sensed, leaving}
+use Rattle.tree_model.specs.Lines.{loadAt, lineAt, lines}
 use Rattle.tree_model.specs.Checks.{reservationsAt, usedAt, reservableAt}
 use Rattle.refusals.specs.Outcome.{Planned}
 use Rattle.tree_model.specs.Outcome.{outcomeOf}
 use Rattle.tree_model.specs.Promise.{networkOf, Windows, Keeps}
 
--- a tree that keeps number 10: its node list keeps every rule, and the sink is one of its nodes
+-- a tree that keeps number 10: its node list keeps every rule, numbers its nodes 1, 2, .., and the sink is one of them
 pub record Surveyed (t : Tree) (sink : ℕ) : Type 0 where
   pub planted : Planted t
   pub ranged : Ranged t
+  pub plain : Plain t
   pub sinkSome : 1 ≤ sink
   pub sinkKnown : sink ≤ t .nodes
+
+-- ---- E3's lists, among trees with gaps and summaries
+
+-- "Node 1 is the root with PARENT 0; any other parent has a smaller number", of at most 254 nodes 1, 2, ..
+pub record Consecutive (t : Tree) : Type 0 where
+  pub few : t .nodes ≤ 254
+  pub root : t .parent 1 ≡ 0
+  pub parents : (v : ℕ) → 2 ≤ v → v ≤ t .nodes → (1 ≤ t .parent v) × (t .parent v < v)
+
+-- these rules, the ranges and the sink are all that a plain list has to keep
+abbrev pub PlainListSurveyed : Type 0
+PlainListSurveyed = (parents bursts rates : List ℕ) (sink : ℕ) → Consecutive (treeOf parents bursts rates) → Ranged (treeOf parents bursts rates)
+    → 1 ≤ sink → sink ≤ treeOf parents bursts rates .nodes → Surveyed (treeOf parents bursts rates) sink
+
+-- and what is defined for gaps and summaries is of a plain tree what E3 has
+pub record AsInE3 (b : Settings) (t : Tree) (sink : ℕ) : Type 0 where
+  -- "a line per node, in node order"
+  pub lines : lines b t sink ≡ join (t .nodes) (λ i. lineAt b t sink (suc i) ∷ [])
+  -- number 6 counts the list's own routers
+  pub routers : routers t ≡ sumTo (λ v. bit (isRouter t v)) (t .nodes)
+  -- β = BURST × BI, and every link adds what comes in its latency
+  pub sensed : (v : ℕ) → sensed (timingOf b) t v ≡ load (t .rate v) (burst (frames (t .burst v)) (timingOf b .interval) .0)
+  pub leaving : (w : ℕ) (l : Load) → leaving (timingOf b) t w l ≡ after (timingOf b) l
+
+abbrev pub PlainAsInE3 : Type 0
+PlainAsInE3 = (b : Settings) (t : Tree) (sink : ℕ) → Plain t → AsInE3 b t sink
 
 -- ---- demand 2
 

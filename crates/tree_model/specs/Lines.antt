@@ -13,7 +13,7 @@ use Rattle.settings_model.specs.declared.Settings.{Settings}
 use Rattle.row_model.specs.Times.{timingOf}
 use Rattle.row_model.specs.Lines.{none, line}
 use Rattle.tree_model.specs.declared.NodeLine.{NodeLine}
-use Rattle.tree_model.specs.Tree.{Tree}
+use Rattle.tree_model.specs.Tree.{Tree, isListed}
 use Rattle.tree_model.specs.Ways.{next, kindOf, depthOf}
 use Rattle.tree_model.specs.Loads.{steps, entering}
 
@@ -53,5 +53,6 @@ routeAt b t sink v = symbols (cond (eqb (loadAt b t sink v .rate .0) 0) 0 (wayDe
 unfoldable pub lineAt : Settings → Tree → ℕ → ℕ → NodeLine
 lineAt b t sink v = record { line = line (kindOf t sink v) (depthOf t v) (figuresAt b t sink v); route = routeAt b t sink v }
 
+-- of nodes that are listed: none for a gap, nor for a branch planned apart
 unfoldable pub lines : Settings → Tree → ℕ → List NodeLine
-lines b t sink = join (t .nodes) (λ i. lineAt b t sink (suc i) ∷ [])
+lines b t sink = join (t .nodes) (λ i. cond (isListed t (suc i)) (lineAt b t sink (suc i) ∷ []) [])

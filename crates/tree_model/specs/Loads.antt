@@ -1,5 +1,5 @@
--- The loads of a surveyed tree (document 02, E3). Assumes nothing: these are definitions.
-use mathlib.Core.Bool.{Bool, true, false}
+-- The loads of a surveyed tree (document 02, E3), also with branches planned apart (E12). Assumes nothing: these are definitions.
+use mathlib.Core.Bool.{Bool, true, false, cond}
 use Prim.Native.Nat.{ℕ, zero, suc, _+_, _*_}
 use Rattle.measure.specs.Measures.{frames, burst}
 use Rattle.links.specs.declared.Timing.{Timing}
@@ -12,9 +12,14 @@ use Rattle.tree_model.specs.Ways.{next}
 abbrev pub none : Load
 none = load 0 0
 
--- what a node's own sensor makes, as document 01's sensor: ρ = RATE, β = BURST × BI
+-- what a node's own sensor makes, as document 01's sensor: ρ = RATE, β = BURST × BI; a summary's burst is in frame-symbols as it stands
 abbrev pub sensed : Timing → Tree → ℕ → Load
-sensed a t v = load (t .rate v) (burst (frames (t .burst v)) (a .interval) .0)
+sensed a t v = load (t .rate v) (cond (t .summary v) (t .burst v) (burst (frames (t .burst v)) (a .interval) .0))
+
+-- what has left the link of node w, where that load enters it. A summary is "of the load that has left the branch's link" (E12): its link
+-- adds nothing.
+abbrev pub leaving : Timing → Tree → ℕ → Load → Load
+leaving a t w l = cond (t .summary w) l (after a l)
 
 -- a, and f 1 to f n besides
 unfoldable pub gather : Load → (ℕ → Load) → ℕ → Load
@@ -31,7 +36,7 @@ unfoldable mutual
 
   pub outputBy : ℕ → Bool → Timing → Tree → ℕ → ℕ → Load
   outputBy zero b a t w v = none
-  outputBy (suc k) true a t w v = after a (inputBy k a t w v)
+  outputBy (suc k) true a t w v = leaving a t w (inputBy k a t w v)
   outputBy (suc k) false a t w v = none
 
 -- more steps than any way has

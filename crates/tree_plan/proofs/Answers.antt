@@ -24,15 +24,16 @@ use Rattle.plan_model.specs.Plans.{answer}
 use Rattle.plan_model.proofs.Answered.{answer-planned}
 use Rattle.plan_model.proofs.Conditions.{over-limit, in-limit}
 use Rattle.report_model.specs.TreeText.{treeText}
-use Rattle.tree_model.specs.Tree.{Tree, treeOf, isNode, isRouter, routers}
+use Rattle.tree_model.specs.Tree.{Tree, treeOf, isNumber, isRouter, routers}
 use Rattle.tree_model.specs.Lines.{lines}
 use Rattle.tree_model.specs.Checks.{routersFit, routersFrom, conditions}
 use Rattle.refusals.specs.Outcome.{Planned, Refused}
 use Rattle.tree_model.specs.Promise.{Keeps}
+use Rattle.tree_model.proofs.PlainLists.{planted, without-gaps}
 use Rattle.tree_model.proofs.LawsHold.{planned-exactly}
 use Rattle.tree_read_model.specs.Survey.{nodeLines, parentIn, treeFrom, treeIn, named, linesFrom, listed, sinkRight, surveyed, outcomeIn}
 use Rattle.tree_read_model.specs.Entries.{entryIn}
-use Rattle.tree_read_model.proofs.Listed.{planted, ranged, tree-nodes}
+use Rattle.tree_read_model.proofs.Listed.{consecutive, ranged, tree-nodes}
 use Rattle.tree_read_model.proofs.LawsHold.{kept-lines, planned-text, every-text-keeps}
 use Rattle.tree_plan.specs.Inner.{Listing, checksBeforeSlots, listedOutcome, loadedOutcome}
 use Rattle.tree_plan.specs.Lists.{Whole}
@@ -47,22 +48,22 @@ pub routers-in : (b : Settings) (t : Tree) (n k : ℕ) → n ≡ routers t → k
 unfolding routersFit superframes
 routers-in b t n k en ek h = rw (sym en, sym ek) (in-limit k n (Superframes n k) h)
 
-pub sink-kept : (t : Tree) (sink : ℕ) → true ≡ (isNode t sink && isRouter t sink) → verdict (sinkRight t sink) ≡ Kept
+pub sink-kept : (t : Tree) (sink : ℕ) → true ≡ (isNumber t sink && isRouter t sink) → verdict (sinkRight t sink) ≡ Kept
 unfolding sinkRight firstBroken
 sink-kept t sink e = rw (sym e)
 
-pub sink-broken : (t : Tree) (sink : ℕ) → false ≡ (isNode t sink && isRouter t sink) → verdict (sinkRight t sink) ≡ Broken (InTree SinkNode)
+pub sink-broken : (t : Tree) (sink : ℕ) → false ≡ (isNumber t sink && isRouter t sink) → verdict (sinkRight t sink) ≡ Broken (InTree SinkNode)
 unfolding sinkRight firstBroken
 sink-broken t sink e = rw (sym e)
 
 module _ (b : Settings) (t : Tree) (sink : ℕ) where
-  pub sink-first : false ≡ (isNode t sink && isRouter t sink) → Broken (InTree SinkNode) ≡ verdict (checksBeforeSlots b t sink)
+  pub sink-first : false ≡ (isNumber t sink && isRouter t sink) → Broken (InTree SinkNode) ≡ verdict (checksBeforeSlots b t sink)
   unfolding checksBeforeSlots
   sink-first e =
       first-part-answers Broken Kept (sinkRight t sink ++ checks b) (routersFit b t) (InTree SinkNode)
       (sym (first-part-answers Broken Kept (sinkRight t sink) (checks b) (InTree SinkNode) (sink-broken t sink e)))
 
-  module _ (e : true ≡ (isNode t sink && isRouter t sink)) where
+  module _ (e : true ≡ (isNumber t sink && isRouter t sink)) where
     pub three-four-next : (r : Refusal) → verdict (checks b) ≡ Broken r → Broken r ≡ verdict (checksBeforeSlots b t sink)
     unfolding checksBeforeSlots
     three-four-next r q =
@@ -86,7 +87,7 @@ module _ (b : Settings) (t : Tree) (sink : ℕ) where
     before-checked = unbroken-where-checked b .0 (unbroken-right (sinkRight t sink) (checks b) front)
 
     pub before-sink : (1 ≤ sink) × (sink ≤ t .nodes)
-    unfolding sinkRight isNode
+    unfolding sinkRight isNumber
     before-sink =
         let u = unbroken-left (sinkRight t sink) (checks b) front in
         let d = and-eq-true-iff (leb 1 sink && leb sink (t .nodes)) (isRouter t sink) .0 (not-false _ (u .0)) in
@@ -151,7 +152,7 @@ module _ (input : List ℕ) (k : verdict (named input ++ listed (nodeLines input
   kept = kept-lines (nodeLines input) (unbroken-right (named input) (listed (nodeLines input)) (kept-unbroken (named input ++ listed (nodeLines input)) k))
 
   pub few-nodes : n + 1 ≤ 255
-  few-nodes = omega (arith, planted (nodeLines input) (kept .1) (kept .0) .few, tree-nodes (nodeLines input), w .count)
+  few-nodes = omega (arith, consecutive (nodeLines input) (kept .1) (kept .0) .few, tree-nodes (nodeLines input), w .count)
 
   pub tree-taken : treeOf (take (n + 1) ps) (take (n + 1) bs) (take (n + 1) rs) ≡ treeIn input
   unfolding treeIn treeFrom
@@ -168,8 +169,9 @@ module _ (input : List ℕ) (k : verdict (named input ++ listed (nodeLines input
         some = omega (arith, kept .0, length-map (nodeLines input) (λ (l : List ℕ). parentIn (entryIn l)));
         bursts = ap suc (length-map (nodeLines input) _ ∙ sym (length-map (nodeLines input) _));
         rates = ap suc (length-map (nodeLines input) _ ∙ sym (length-map (nodeLines input) _));
-        planted = planted (nodeLines input) (kept .1) (kept .0);
+        planted = planted (treeFrom (nodeLines input)) (consecutive (nodeLines input) (kept .1) (kept .0));
         ranged = ranged (nodeLines input) (kept .1) (kept .0);
+        withoutGaps = without-gaps (treeFrom (nodeLines input)) (consecutive (nodeLines input) (kept .1) (kept .0));
       })
 
 -- ---- demand 3

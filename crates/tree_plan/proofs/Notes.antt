@@ -9,7 +9,7 @@ use lib.ListN.{length, set}
 use lib.Seq.{getD-set-same, getD-set-other}
 use Rattle.links.specs.declared.Load.{Load}
 use Rattle.links.specs.declared.Timing.{Timing}
-use Rattle.tree_model.specs.Tree.{Tree, feeds, Planted, Facing}
+use Rattle.tree_model.specs.Tree.{Tree, feeds, Planted, Facing, WithoutGaps}
 use Rattle.tree_model.specs.Loads.{inputOf}
 use Rattle.tree_model.specs.Ways.{Beyond, here, there}
 use Rattle.tree_plan.specs.Inner.{Right, Seen, Noted, AllRight}
@@ -81,6 +81,6 @@ module _ (a : Timing) (t : Tree) (p : Planted t) (v from : ℕ) (f : Facing t v 
       out s u z (there w w1 wn g r) = stays s u z (n .beyond s u w z w1 wn (rw (z .towards) at g) r)
 
 -- a walk from the sink notes all
-pub all-noted : (a : Timing) (t : Tree) → Planted t → (s : ℕ) → 1 ≤ s → s ≤ t .nodes → (rs bs ts rs' bs' ts' : List ℕ) → Noted a t s 0 rs bs ts rs' bs' ts' → AllRight a t s rs' bs' ts'
-all-noted a t p s one most rs bs ts rs' bs' ts' n =
-    record { each = λ u u1 un. n .beyond s u (record { node = one; known = most; towards = at-sink t p s one most }) (every t p s one most u u1 un) }
+pub all-noted : (a : Timing) (t : Tree) → Planted t → WithoutGaps t → (s : ℕ) → 1 ≤ s → s ≤ t .nodes → (rs bs ts rs' bs' ts' : List ℕ) → Noted a t s 0 rs bs ts rs' bs' ts' → AllRight a t s rs' bs' ts'
+all-noted a t p full s one most rs bs ts rs' bs' ts' n =
+    record { each = λ u u1 un. n .beyond s u (record { node = one; known = most; towards = at-sink t p s one most }) (every t p s one most (full s most) u u1 un (full u un)) }

@@ -30,27 +30,27 @@ module _ (ps ts ds : List ℕ) (sink : ℕ) (L : Led ps ts sink) (D : Delayed ps
 
   pub way-at-sink : (u : ℕ) → u ≡ sink → wayIn ps ds sink u ≡ 0
   unfolding wayIn
-  way-at-sink u e = rw e (way-sink (λ u. getD ds u 0) (shape ps) (L .planted) sink (L .sinkSome) (known sink (L .sinkKnown)))
+  way-at-sink u e = rw e (way-sink (λ u. getD ds u 0) (shape ps) (L .planted) sink (L .sinkSome) (known sink (L .sinkKnown)) (L .withoutGaps sink (known sink (L .sinkKnown))))
 
   module _ (u : ℕ) (one : 1 ≤ u) (most : u < length ps) (m : u ≡ sink → ⊥) where
     pub way-on : wayIn ps ds sink u ≡ getD ds u 0 + wayIn ps ds sink (getD ts u 0)
     unfolding wayIn
-    way-on = rw (L .led u one most) (way-step (λ u. getD ds u 0) (shape ps) (L .planted) sink (L .sinkSome) (known sink (L .sinkKnown)) u one (known u most) m)
+    way-on = rw (L .led u one most) (way-step (λ u. getD ds u 0) (shape ps) (L .planted) sink (L .sinkSome) (known sink (L .sinkKnown)) (L .withoutGaps sink (known sink (L .sinkKnown))) u one (known u most) (L .withoutGaps u (known u most)) m)
 
     pub next-known : (1 ≤ getD ts u 0) × (getD ts u 0 < length ps)
     next-known =
-        let n = next-node (shape ps) (L .planted) sink (L .sinkSome) (known sink (L .sinkKnown)) u one (known u most) m in
+        let n = next-node (shape ps) (L .planted) sink (L .sinkSome) (known sink (L .sinkKnown)) (L .withoutGaps sink (known sink (L .sinkKnown))) u one (known u most) (L .withoutGaps u (known u most)) m in
         rw (L .led u one most) (n .0, omega (arith, n .1, L .some))
 
     pub ahead-falls : ahead ps sink (getD ts u 0) < ahead ps sink u
-    ahead-falls = rw (L .led u one most) (left-falls (shape ps) (L .planted) sink (L .sinkSome) (known sink (L .sinkKnown)) u one (known u most) m)
+    ahead-falls = rw (L .led u one most) (left-falls (shape ps) (L .planted) sink (L .sinkSome) (known sink (L .sinkKnown)) (L .withoutGaps sink (known sink (L .sinkKnown))) u one (known u most) (L .withoutGaps u (known u most)) m)
 
   -- its delay fits 64 bits
   pub way-fits : (v : ℕ) → 1 ≤ v → v < length ps → wayIn ps ds sink v < 2 ^ 64
   unfolding wayIn
   way-fits v one most =
       let n : 2 * (shape ps .nodes + 1) ≤ 510 = omega (arith, L .planted .few) in
-      omega (arith, way-most (λ u. getD ds u 0) (shape ps) (L .planted) sink (L .sinkSome) (known sink (L .sinkKnown)) (2 ^ 54) (λ u a b. D .low u a (omega (arith, b, L .some))) v one (known v most), mul-le-mul-right (2 ^ 54) n)
+      omega (arith, way-most (λ u. getD ds u 0) (shape ps) (L .planted) sink (L .sinkSome) (known sink (L .sinkKnown)) (L .withoutGaps sink (known sink (L .sinkKnown))) (2 ^ 54) (λ u a b. D .low u a (omega (arith, b, L .some))) v one (known v most) (L .withoutGaps v (known v most)), mul-le-mul-right (2 ^ 54) n)
 
 -- ROUTE with traffic and without
 pub route-some : (ps is ds : List ℕ) (sink v n : ℕ) → (getD is v 0 ≡ 0 → ⊥) → n ≡ wayIn ps ds sink v → symbols n ≡ routeIn ps is ds sink v
@@ -72,7 +72,7 @@ module _ (ps ts : List ℕ) (sink : ℕ) (L : Led ps ts sink) (v : ℕ) (one : 1
     down-test : ltb v (getD ts v 0) ≡ leb 1 (below (shape ps) sink v)
     down-test =
         let e : getD ts v 0 ≡ next (shape ps) sink v = L .led v one most in
-        rw e (leads-down (shape ps) (L .planted) sink (L .sinkSome) (omega (arith, L .sinkKnown)) v one (omega (arith, most)) m)
+        rw e (leads-down (shape ps) (L .planted) sink (L .sinkSome) (omega (arith, L .sinkKnown)) (L .withoutGaps sink (omega (arith, L .sinkKnown))) v one (omega (arith, most)) m)
 
     pub kind-down : ltb v (getD ts v 0) ≡ true → Downward ≡ kindOf (shape ps) sink v
     unfolding kindOf

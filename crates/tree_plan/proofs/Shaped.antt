@@ -6,7 +6,7 @@ use Prim.Native.Nat.{ℕ, zero, suc}
 use lib.Dec.{eqb}
 use lib.ListN.{getD}
 use Rattle.settings_model.specs.declared.Settings.{Settings}
-use Rattle.tree_model.specs.Tree.{Tree, treeOf, Planted, isNode, isRouter, routers}
+use Rattle.tree_model.specs.Tree.{Tree, treeOf, Planted, isNumber, isRouter, routers}
 use Rattle.tree_model.specs.Ways.{childBy, below, orElse, next, kindOf, depthBy, depthOf}
 use Rattle.tree_model.specs.Lines.{wayDelay}
 use Rattle.tree_model.specs.Checks.{routersFit}
@@ -18,7 +18,7 @@ module _ (ps bs rs : List ℕ) where
   T = treeOf ps bs rs
 
   pub planted-shape : Planted T → Planted (shape ps)
-  planted-shape p = record { few = p .few; root = p .root; some = p .some; smaller = p .smaller }
+  planted-shape p = record { few = p .few; root = p .root; listed = p .listed; smaller = p .smaller }
 
   child-same : (k c v : ℕ) → childBy k (shape ps) c v ≡ childBy k T c v
   unfolding childBy
@@ -67,7 +67,7 @@ module _ (ps bs rs : List ℕ) where
 
   -- the conditions before numbers 5 and 7
   pub sink-same : (s : ℕ) → sinkRight (shape ps) s ≡ sinkRight T s
-  unfolding sinkRight isNode isRouter
+  unfolding sinkRight isNumber isRouter
   sink-same s = refl
 
   fit-same : (b : Settings) → routersFit b (shape ps) ≡ routersFit b T

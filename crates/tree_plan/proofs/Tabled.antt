@@ -18,11 +18,12 @@ use Rattle.settings_model.specs.declared.Settings.{Settings}
 use Rattle.settings_model.specs.Laws.{Checked}
 use Rattle.row_model.specs.Times.{timingOf}
 use Rattle.row_model.proofs.LoadLaws.{timed, interval-low, exchange-low}
-use Rattle.tree_model.specs.Tree.{Tree, treeOf}
+use Rattle.tree_model.specs.Tree.{Tree, treeOf, Plain}
 use Rattle.tree_model.specs.Ways.{next, superframeOf}
 use Rattle.tree_model.specs.Loads.{steps, entering}
 use Rattle.tree_model.specs.Lines.{loadAt, linkAt, sinkFigures, figuresAt, wayDelay, routeAt, lineAt, lines}
 use Rattle.tree_model.specs.Checks.{reserves, reservationsAt, usedAt, reservableAt, routerAt, routersFrom}
+use Rattle.tree_model.proofs.PlainLists.{line-per-node}
 use Rattle.tree_model.proofs.LoadBounds.{Short, Low, input-low}
 use Rattle.tree_model.proofs.Shares.{sum-ap}
 use Rattle.tree_model.proofs.WayLaws.{facing, next-node, superframe-led}
@@ -64,7 +65,7 @@ module _ (b : Settings) (C : Checked b) (ps bs rs : List ℕ) (G : Listing ps bs
 
     low : Low (loadAt b T sink v)
     unfolding loadAt entering
-    low = input-low a T (G .planted) (G .ranged) (timing-short b C) v (next T sink v) (facing T (G .planted) sink s1 known v one node)
+    low = input-low a T (G .planted) (G .ranged) (λ v. refl) (timing-short b C) v (next T sink v) (facing T (G .planted) sink s1 known (G .withoutGaps sink known) v one node (G .withoutGaps v node))
 
     rate-low : getD is v 0 ≤ 1040130
     rate-low = omega (arith, rate-right, low .rate)
@@ -86,6 +87,7 @@ module _ (b : Settings) (C : Checked b) (ps bs rs : List ℕ) (G : Listing ps bs
   led = record {
     some = omega (arith, G .some);
     planted = planted-shape ps bs rs (G .planted);
+    withoutGaps = G .withoutGaps;
     sinkSome = s1;
     sinkKnown = sn;
     towards = R .towards;
@@ -96,7 +98,7 @@ module _ (b : Settings) (C : Checked b) (ps bs rs : List ℕ) (G : Listing ps bs
 
   superframe-right : (v : ℕ) → 1 ≤ v → v < length ps → (v ≡ sink → ⊥) → superframeIn ps ts v ≡ superframeOf T sink v
   unfolding superframeIn
-  superframe-right v one most m = rw (right v one most .towards) (superframe-led T (G .planted) sink s1 known v one (node v one most) m)
+  superframe-right v one most m = rw (right v one most .towards) (superframe-led T (G .planted) sink s1 known (G .withoutGaps sink known) v one (node v one most) m)
 
   reserves-right : (r v : ℕ) → 1 ≤ v → v ≤ length ps - 1 → reservesIn ps is ts sink r v ≡ reserves b T sink r v
   unfolding reservesIn reserves
@@ -158,7 +160,7 @@ module _ (b : Settings) (C : Checked b) (ps bs rs : List ℕ) (G : Listing ps bs
             → cond (eqb v sink) 0 (getD ds v 0 + wayDelay k (λ u. getD ds u 0) T sink (next T sink v)) ≡ cond (eqb v sink) 0 (linkAt b T sink v .delay .0 + wayDelay k (λ u. linkAt b T sink u .delay .0) T sink (next T sink v))
         by (yes e) ih = rw (eq-eqb v sink e)
         by (no n) ih =
-            let x = next-node T (G .planted) sink s1 known v one (node v one most) n in
+            let x = next-node T (G .planted) sink s1 known (G .withoutGaps sink known) v one (node v one most) (G .withoutGaps v (node v one most)) n in
             rw (ne-eqb v sink n) (omega (arith, delay-right v one most, ih (x .0) (omega (arith, x .1, G .some))))
 
     sink-right : sinkFor a (loadAt b T sink sink) ≡ sinkFigures b T sink
@@ -187,8 +189,10 @@ module _ (b : Settings) (C : Checked b) (ps bs rs : List ℕ) (G : Listing ps bs
     lines-to (suc n) h = rw (lines-to n (omega arith), line-right (suc n) (omega arith) h)
 
     pub lines-right : linesIn a ps is js ds sink (length ps - 1) ≡ lines b T sink
-    unfolding lines
-    lines-right = lines-to (length ps - 1) (omega (arith, G .some))
+    lines-right = lines-to (length ps - 1) (omega (arith, G .some)) ∙ sym (line-per-node T plain b sink)
+      where
+        plain : Plain T
+        plain = record { withoutGaps = G .withoutGaps; withoutSummaries = λ v. refl; noneInside = λ v. refl }
 
 -- ---- all of it, of the times that were computed
 
@@ -202,7 +206,7 @@ pub record Tabled (b : Settings) (a : Timing) (ps bs rs : List ℕ) (sink : ℕ)
 
 module _ (b : Settings) (C : Checked b) (ps bs rs : List ℕ) (G : Listing ps bs rs) (a : Timing) (e : a ≡ timingOf b) where
   pub given : Given a ps bs rs
-  given = rw e (record { timed = timed b C; short = timing-short b C; some = omega (arith, G .some); bursts = G .bursts; rates = G .rates; planted = G .planted; ranged = G .ranged })
+  given = rw e (record { timed = timed b C; short = timing-short b C; some = omega (arith, G .some); bursts = G .bursts; rates = G .rates; planted = G .planted; ranged = G .ranged; withoutGaps = G .withoutGaps })
 
   pub tabled : (sink : ℕ) → 1 ≤ sink → sink < length ps → (is js ts : List ℕ) → Room ps is js ts → AllRight a (treeOf ps bs rs) sink is js ts → Tabled b a ps bs rs sink is js ts
   tabled sink s1 sn is js ts R A =

@@ -12,9 +12,10 @@ use Rattle.links.specs.declared.Reservation.{Reservation}
 use Rattle.links.specs.Link.{load, plus, loadUpTo64, reservationOf, afterLink, after}
 use Rattle.links.specs.Answers.{reservationAnswered, Timed}
 use Rattle.links.proofs.Making.{load-fits, reservation-fits}
-use Rattle.tree_model.specs.Tree.{Tree, feeds, Planted, Ranged, Facing}
+use Rattle.tree_model.specs.Tree.{Tree, feeds, Planted, Ranged, WithoutSummaries, Facing}
 use Rattle.tree_model.specs.Loads.{sensed, gather, inputOf, outputOf}
 use Rattle.tree_model.proofs.Steps.{offered, input-step, output-step}
+use Rattle.tree_model.proofs.PlainLists.{link-crossed}
 use Rattle.tree_model.proofs.LoadBounds.{Short, Low, input-low, output-low}
 
 -- what the own sensor and the neighbours up to w bring
@@ -43,10 +44,10 @@ gather-le : (s : Load) (f : ℕ → Load) (k n : ℕ) → k ≤ n → Under (gat
 unfolding gather
 gather-le s f k n h = le-ind (λ (m : ℕ). Under (gather s f k) (gather s f m)) (omega arith) (λ m l e. omega arith) n h
 
-module _ (a : Timing) (t : Tree) (p : Planted t) (g : Ranged t) (s : Short a) (v from : ℕ) (f : Facing t v from) where
+module _ (a : Timing) (t : Tree) (p : Planted t) (g : Ranged t) (o : WithoutSummaries t) (s : Short a) (v from : ℕ) (f : Facing t v from) where
   part-low : (w : ℕ) → w ≤ t .nodes → Low (soFar a t v from w)
   part-low w h =
-      let e : Low (gather (sensed a t v) (λ u. offered (feeds t v from u) (outputOf a t u v)) (t .nodes)) = rw (input-step a t p v from f) at (input-low a t p g s v from f) in
+      let e : Low (gather (sensed a t v) (λ u. offered (feeds t v from u) (outputOf a t u v)) (t .nodes)) = rw (input-step a t p v from f) at (input-low a t p g o s v from f) in
       let u = gather-le (sensed a t v) (λ u. offered (feeds t v from u) (outputOf a t u v)) w (t .nodes) h in
       record { rate = omega (arith, e .rate, u .rate); burst = omega (arith, e .burst, u .burst) }
 
@@ -55,12 +56,12 @@ module _ (a : Timing) (t : Tree) (p : Planted t) (g : Ranged t) (s : Short a) (v
   part-fits w h = let l = part-low w h in load-fits (soFar a t v from w) (omega (arith, l .rate)) (omega (arith, l .burst))
 
 -- the load that has left a link, as code computes it
-module _ (a : Timing) (t : Tree) (p : Planted t) (g : Ranged t) (d : Timed a) (s : Short a) (v from : ℕ) (f : Facing t v from) where
+module _ (a : Timing) (t : Tree) (p : Planted t) (g : Ranged t) (own : WithoutSummaries t) (d : Timed a) (s : Short a) (v from : ℕ) (f : Facing t v from) where
   pub output-made : (i o : Load) (r : Reservation) → i ≡ inputOf a t v from → r ≡ reservationAnswered a (i .rate) → o ≡ loadUpTo64 (afterLink i r) → o ≡ outputOf a t v from
   unfolding after
   output-made i o r ei er eo =
-      let low : i .rate .0 < 2 ^ 40 = rw ei (omega (arith, input-low a t p g s v from f .rate)) in
+      let low : i .rate .0 < 2 ^ 40 = rw ei (omega (arith, input-low a t p g own s v from f .rate)) in
       let e : r ≡ reservationOf a (i .rate) = er ∙ reservation-fits a (i .rate) d low in
-      let w : outputOf a t v from ≡ afterLink i r = rw (e, ei) (output-step a t p v from f) in
-      let l = output-low a t p g s v from f in
+      let w : outputOf a t v from ≡ afterLink i r = rw (e, ei) (output-step a t p v from f ∙ link-crossed a t own v (inputOf a t v from)) in
+      let l = output-low a t p g own s v from f in
       eo ∙ load-fits (afterLink i r) (rw (sym w) (omega (arith, l .rate))) (rw (sym w) (omega (arith, l .burst))) ∙ sym w

@@ -10,7 +10,7 @@ use Rattle.settings_model.specs.declared.Settings.{Settings}
 use Rattle.settings_model.specs.Checks.{checks}
 use Rattle.links.specs.declared.Timing.{Timing}
 use Rattle.links.specs.Answers.{Timed}
-use Rattle.tree_model.specs.Tree.{Tree, treeOf, Planted, Ranged}
+use Rattle.tree_model.specs.Tree.{Tree, treeOf, Planted, Ranged, WithoutGaps}
 use Rattle.tree_model.specs.Ways.{next, Beyond}
 use Rattle.tree_model.specs.Loads.{inputOf}
 use Rattle.tree_model.specs.Lines.{lines}
@@ -33,6 +33,7 @@ pub record Given (a : Timing) (ps bs rs : List ℕ) : Type 0 where
   pub rates : length rs ≡ length ps
   pub planted : Planted (treeOf ps bs rs)
   pub ranged : Ranged (treeOf ps bs rs)
+  pub withoutGaps : WithoutGaps (treeOf ps bs rs)
 
 -- the lists of a tree that keeps number 10 but for the sink
 pub record Listing (ps bs rs : List ℕ) : Type 0 where
@@ -41,6 +42,7 @@ pub record Listing (ps bs rs : List ℕ) : Type 0 where
   pub rates : length rs ≡ length ps
   pub planted : Planted (treeOf ps bs rs)
   pub ranged : Ranged (treeOf ps bs rs)
+  pub withoutGaps : WithoutGaps (treeOf ps bs rs)
 
 -- the conditions before numbers 5 and 7: the sink's, 3, 4 and 6
 unfoldable pub checksBeforeSlots : Settings → Tree → ℕ → List (Condition Refusal)

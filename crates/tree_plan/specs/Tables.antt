@@ -22,7 +22,7 @@ use Rattle.links.specs.Link.{load, slotsOf, figuresOf}
 use Rattle.links.specs.Answers.{Timed}
 use Rattle.row_model.specs.Lines.{none, line}
 use Rattle.tree_model.specs.declared.NodeLine.{NodeLine}
-use Rattle.tree_model.specs.Tree.{Planted, sumTo}
+use Rattle.tree_model.specs.Tree.{Planted, sumTo, WithoutGaps}
 use Rattle.tree_model.specs.Ways.{next, kindOf, depthOf}
 use Rattle.tree_model.specs.Loads.{steps}
 use Rattle.tree_model.specs.Lines.{wayDelay}
@@ -85,6 +85,7 @@ pub record Loaded (a : Timing) (ps is js : List ℕ) : Type 0 where
 pub record Led (ps ts : List ℕ) (sink : ℕ) : Type 0 where
   pub some : 1 ≤ length ps
   pub planted : Planted (shape ps)
+  pub withoutGaps : WithoutGaps (shape ps)
   pub sinkSome : 1 ≤ sink
   pub sinkKnown : sink < length ps
   pub towards : length ps ≤ length ts

@@ -4,7 +4,7 @@ ghost use mathlib.Core.Path.{_≡_};
 ghost use mathlib.Core.Bool.{_&&_};
 ghost use Prim.Native.Nat.{_≤_, _<_};
 ghost use lib.ListN.{length};
-ghost use Rattle.tree_model.specs.Tree.{Planted, isNode, isRouter, routers};
+ghost use Rattle.tree_model.specs.Tree.{Planted, isNumber, isRouter, routers};
 ghost use Rattle.tree_model.specs.Ways.{depthOf};
 ghost use Rattle.tree_plan.specs.Inner.{shape};
 
@@ -12,7 +12,7 @@ ghost use Rattle.tree_plan.specs.Inner.{shape};
 pub(crate) fn sink_right(parents: &[u8], sink: u64) -> bool
     requires { ⌜ 1 ≤ length (now parents) ⌝ }
     requires { ⌜ length (now parents) ≤ 255 ⌝ }
-    ensures { λ r. ⌜ r ≡ isNode (shape (now (parents .entry))) sink && isRouter (shape (now (parents .entry))) sink ⌝ }
+    ensures { λ r. ⌜ r ≡ isNumber (shape (now (parents .entry))) sink && isRouter (shape (now (parents .entry))) sink ⌝ }
 {
     if sink < 1 {
         return false;

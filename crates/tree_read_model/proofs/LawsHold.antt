@@ -9,7 +9,7 @@ use lib.ListN.{length}
 use borrow.Author.Tests.{leb-true, not-false}
 use Rattle.refusals.specs.Conditions.{Unbroken}
 use Rattle.refusals.proofs.Unbroken.{unbroken-left, unbroken-right}
-use Rattle.tree_model.specs.Tree.{isNode, isRouter}
+use Rattle.tree_model.specs.Tree.{isNumber, isRouter}
 use Rattle.tree_model.specs.Lines.{lines}
 use Rattle.tree_model.specs.Checks.{conditions}
 use Rattle.refusals.specs.Outcome.{Planned}
@@ -18,7 +18,7 @@ use Rattle.refusals.proofs.Outcomes.{planned-unbroken, unbroken-planned}
 use Rattle.tree_model.proofs.LawsHold.{every-plan-keeps}
 use Rattle.tree_read_model.specs.Survey.{nodeLines, treeFrom, treeIn, named, linesFrom, listed, sinkRight, surveyed, outcomeIn}
 use Rattle.tree_read_model.specs.Laws.{UnbrokenIsSurveyed, PlannedText, EveryTextKeeps}
-use Rattle.tree_read_model.proofs.Listed.{planted, ranged}
+use Rattle.tree_read_model.proofs.Listed.{list-surveyed}
 
 -- lines that are kept are there
 pub kept-lines : (ls : List (List ℕ)) → Unbroken (listed ls) → (1 ≤ length ls) × Unbroken (linesFrom 1 ls)
@@ -27,7 +27,7 @@ kept-lines [] u = absurd (true≢false (u .0))
 kept-lines (l ∷ ls) u = (omega arith, u)
 
 pub unbroken-is-surveyed : UnbrokenIsSurveyed
-unfolding surveyed treeIn sinkRight isNode
+unfolding surveyed treeIn sinkRight isNumber
 unbroken-is-surveyed input sink u =
     let t = treeFrom (nodeLines input) in
     let front = named input ++ listed (nodeLines input) in
@@ -35,7 +35,7 @@ unbroken-is-surveyed input sink u =
     let s = unbroken-right front (sinkRight (treeIn input) sink) u in
     let d = and-eq-true-iff (leb 1 sink && leb sink (t .nodes)) (isRouter t sink) .0 (not-false _ (s .0)) in
     let e = and-eq-true-iff (leb 1 sink) (leb sink (t .nodes)) .0 (d .0) in
-    (record { planted = planted (nodeLines input) (k .1) (k .0); ranged = ranged (nodeLines input) (k .1) (k .0); sinkSome = leb-true 1 sink (e .0); sinkKnown = leb-true sink (t .nodes) (e .1) }, d .1)
+    (list-surveyed (nodeLines input) (k .1) (k .0) sink (leb-true 1 sink (e .0)) (leb-true sink (t .nodes) (e .1)), d .1)
 
 pub planned-text : PlannedText
 unfolding outcomeIn outcomeOf

@@ -10,7 +10,9 @@ use lib.ListN.{length, getD, length-map}
 use borrow.Author.Tests.{eqb-true, leb-true, ltb-true, ne-eqb, not-false}
 use Rattle.refusals.specs.Conditions.{Unbroken}
 use Rattle.settings_model.specs.Columns.{twelve, table, columnAt}
-use Rattle.tree_model.specs.Tree.{Planted, Ranged}
+use Rattle.tree_model.specs.Tree.{Ranged}
+use Rattle.tree_model.specs.Laws.{Surveyed, Consecutive}
+use Rattle.tree_model.proofs.PlainLists.{plain-list-surveyed}
 use Rattle.tree_read_model.specs.declared.Reading.{Reading}
 use Rattle.tree_read_model.specs.declared.Reading.the-variants.{Node, Unreadable}
 use Rattle.tree_read_model.specs.Entries.{entryIn, parentRight, sensorRight, entryRight, lineRight}
@@ -115,29 +117,16 @@ module _ (ls : List (List ℕ)) where
     sensors : (i : ℕ) → i < length ls → Sensor (treeFrom ls .burst (suc i)) (treeFrom ls .rate (suc i))
     sensors i h = rw (tree-burst i h, tree-rate i h) (sensor-is _ _ (here i h .sensor))
 
-    pub planted : Planted (treeFrom ls)
-    planted = record {
-      few = few;
-      root = parent-root (treeFrom ls .parent 1) (parents 0 some);
-      some = λ v two most. above v two most .0;
-      smaller = λ v one most. below v one most;
-    }
+    pub consecutive : Consecutive (treeFrom ls)
+    consecutive = record { few = few (length ls) refl; root = parent-root (treeFrom ls .parent 1) (parents 0 some); parents = above }
       where
-        few : treeFrom ls .nodes ≤ 254
-        few = last (length ls) refl
-          where
-            last : (n : ℕ) → length ls ≡ n → treeFrom ls .nodes ≤ 254
-            last zero e = absurd (omega arith)
-            last (suc n) e = omega (arith, tree-nodes, e, here n (omega arith) .few)
+        few : (n : ℕ) → length ls ≡ n → treeFrom ls .nodes ≤ 254
+        few zero e = absurd (omega arith)
+        few (suc n) e = omega (arith, tree-nodes, e, here n (omega arith) .few)
 
         above : (v : ℕ) → 2 ≤ v → v ≤ treeFrom ls .nodes → (1 ≤ treeFrom ls .parent v) × (treeFrom ls .parent v < v)
         above zero two most = absurd (omega arith)
         above (suc i) two most = parent-below (suc i) (treeFrom ls .parent (suc i)) (λ z. omega arith) (parents i (omega (arith, tree-nodes)))
-
-        below : (v : ℕ) → 1 ≤ v → v ≤ treeFrom ls .nodes → treeFrom ls .parent v < v
-        below zero one most = absurd (omega arith)
-        below (suc zero) one most = omega (arith, parent-root (treeFrom ls .parent 1) (parents 0 some))
-        below (suc (suc i)) one most = above (suc (suc i)) (omega arith) most .1
 
     pub ranged : Ranged (treeFrom ls)
     ranged = record { bursts = λ v one most. at v one most .burst; rates = λ v one most. at v one most .rate; both = λ v one most. at v one most .both }
@@ -145,3 +134,8 @@ module _ (ls : List (List ℕ)) where
         at : (v : ℕ) → 1 ≤ v → v ≤ treeFrom ls .nodes → Sensor (treeFrom ls .burst v) (treeFrom ls .rate v)
         at zero one most = absurd (omega arith)
         at (suc i) one most = sensors i (omega (arith, tree-nodes))
+
+    pub list-surveyed : (sink : ℕ) → 1 ≤ sink → sink ≤ treeFrom ls .nodes → Surveyed (treeFrom ls) sink
+    unfolding treeFrom
+    list-surveyed sink one most =
+        plain-list-surveyed (0 ∷ map (λ l. parentIn (entryIn l)) ls) (0 ∷ map (λ l. burstIn (entryIn l)) ls) (0 ∷ map (λ l. rateIn (entryIn l)) ls) sink consecutive ranged one most

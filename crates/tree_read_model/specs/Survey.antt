@@ -9,7 +9,7 @@ use Rattle.refusals.specs.declared.TreeRefusal.the-variants.{NodeNames, NodeLin
 use Rattle.refusals.specs.Conditions.{Condition, condition, firstBroken}
 use Rattle.lines.specs.Text as text
 use Rattle.settings_model.specs.declared.Settings.{Settings}
-use Rattle.tree_model.specs.Tree.{Tree, treeOf, isNode, isRouter}
+use Rattle.tree_model.specs.Tree.{Tree, treeOf, isNumber, isRouter}
 use Rattle.tree_model.specs.Lines.{lines}
 use Rattle.tree_model.specs.Checks.{conditions}
 use Rattle.refusals.specs.Outcome.{Planned, Refused}
@@ -62,7 +62,7 @@ listed (l ∷ ls) = linesFrom 1 (l ∷ ls)
 
 -- "sink last": it must be a router
 unfoldable pub sinkRight : Tree → ℕ → List (Condition Refusal)
-sinkRight t sink = condition (not (isNode t sink && isRouter t sink)) (InTree SinkNode) ∷ []
+sinkRight t sink = condition (not (isNumber t sink && isRouter t sink)) (InTree SinkNode) ∷ []
 
 unfoldable pub surveyed : List ℕ → ℕ → List (Condition Refusal)
 surveyed input sink = named input ++ listed (nodeLines input) ++ sinkRight (treeIn input) sink

@@ -4,7 +4,8 @@ use Prim.Native.Nat.{_-_, _≤_}
 use native.Mathlib.Omega.{arith}
 use lib.ListN.{length}
 use Rattle.network.specs.Counting.{bit}
-use Rattle.tree_model.specs.Tree.{sumTo, isRouter, routers}
+use Rattle.tree_model.specs.Tree.{sumTo, isRouter}
+use Rattle.tree_model.proofs.PlainLists.{own-routers}
 use Rattle.tree_model.proofs.Shapes.{counted, not-counted}
 use Rattle.tree_plan.specs.Inner.{shape}
 use borrow.Author.Needs.{needs}
@@ -46,8 +47,10 @@ loop-again-2 : tie.Need-loop-again-2 Inv-loop μ-loop
 loop-again-2 c = (omega (arith, c .before .before .loop-test .taken), omega (arith, c .before .before .before .loop .inv .1), not-counted (isRouter (shape (c .before .before .before .before .before .args .parents .now))) _ _ (c .before .before .before .loop .inv .2) (sym (c .before .is-router .ensures) ∙ c .if1 .left))
 
 returns : tie.Need-returns Inv-loop μ-loop
-unfolding routers
-returns c = let z : c .before .loop .v ≡ length (c .before .before .before .args .parents .now) - 1 = omega (arith, c .before .loop .inv .0, c .loop-test .left) in rw z at (c .before .loop .inv .2)
+returns c =
+    let ps = c .before .before .before .args .parents .now in
+    let z : c .before .loop .v ≡ length ps - 1 = omega (arith, c .before .loop .inv .0, c .loop-test .left) in
+    rw z at (c .before .loop .inv .2) ∙ sym (own-routers (shape ps) (λ v. refl))
 
 pub routers-in-spec : {M : Type 1} → statement M
 routers-in-spec =

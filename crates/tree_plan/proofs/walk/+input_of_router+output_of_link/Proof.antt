@@ -209,7 +209,7 @@ pub +input-of-router+output-of-link-spec : {M : Type 1} → statement M
     let m : plus (l .total) (o .result) ≡ soFar (x .t) T (x .v) (x .from) (l .w + 1) = more (x .t) T (x .v) (x .from) (l .w) (l .total) (o .result) (l .inv .sum) yes (o .ensures .0) in
     record {
       low = most;
-      sum = c .plus .ensures ∙ ap loadUpTo64 m ∙ (part-fits (x .t) T (q .0 .planted) (q .0 .ranged) (q .0 .short) (x .v) (x .from) (q .1 .0) (l .w + 1) most);
+      sum = c .plus .ensures ∙ ap loadUpTo64 m ∙ (part-fits (x .t) T (q .0 .planted) (q .0 .ranged) (λ v. refl) (q .0 .short) (x .v) (x .from) (q .1 .0) (l .w + 1) most);
       rates-length = o .kept .1 .1 .1 .1 .1 .1 .0 ∙ l .inv .rates-length;
       bursts-length = o .kept .1 .1 .1 .1 .1 .1 .1 .0 ∙ l .inv .bursts-length;
       towards-length = o .kept .1 .1 .1 .1 .1 .1 .1 .1 .0 ∙ l .inv .towards-length;
@@ -373,4 +373,4 @@ pub +input-of-router+output-of-link-spec : {M : Type 1} → statement M
     let q = s .pre .1 in
     let T = treeOf (x .parents .now) (x .bursts .now) (x .rates .now) in
     let o = c .before .before .before .before .before .before .before .before .input-of-router in
-    (output-made (x .t) T (q .0 .planted) (q .0 .ranged) (q .0 .timed) (q .0 .short) (x .w) (x .v) (q .1 .0) _ _ _ (o .ensures .0) (c .before .reservation-for .ensures) (c .after .ensures), o .ensures .1))
+    (output-made (x .t) T (q .0 .planted) (q .0 .ranged) (λ v. refl) (q .0 .timed) (q .0 .short) (x .w) (x .v) (q .1 .0) _ _ _ (o .ensures .0) (c .before .reservation-for .ensures) (c .after .ensures), o .ensures .1))

@@ -33,7 +33,7 @@ returns c =
     let x = s .args in
     let q = s .pre in
     let T = treeOf (x .parents .now) (x .bursts .now) (x .rates .now) in
-    all-noted (x .t) T (q .0 .planted) (x .sink) (q .1 .0) (omega (arith, q .1 .1 .0)) _ _ _ _ _ _ (c .before .before .before .before .before .before .input-of-router .ensures .1)
+    all-noted (x .t) T (q .0 .planted) (q .0 .withoutGaps) (x .sink) (q .1 .0) (omega (arith, q .1 .1 .0)) _ _ _ _ _ _ (c .before .before .before .before .before .before .input-of-router .ensures .1)
 
 pub all-inputs-spec : {M : Type 1} → statement M
 all-inputs-spec =
