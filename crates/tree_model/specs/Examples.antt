@@ -141,8 +141,8 @@ apart t c d rate burst = record {
   inside = λ v. bit (eqb v c);
 }
 
--- Router 3 hangs below the root, on the sink's path: its line in the whole has RATE 4, BURST 305544 and LATENCY 61026, so 305544 + 4 × 61026
--- has left its link.
+-- Router 3 hangs below the root, which lies on the sink's path. Its line in the whole has RATE 4, BURST 305544 and LATENCY 61026, so 305544 +
+-- 4 × 61026 has left its link.
 unfoldable pub loadedApart : Tree
 loadedApart = apart branches 3 6 4 549648
 
@@ -150,7 +150,7 @@ loadedApart = apart branches 3 6 4 549648
 unfoldable pub silentApart : Tree
 silentApart = apart branches 9 10 0 0
 
--- the lines of nodes 1 to 10 that stand at these places, from 0
+-- of the whole tree's lines those at these places, counted from 0
 unfoldable pub linesOfWhole : List ℕ → List (List ℕ)
 linesOfWhole places = map (λ i. getD (table acknowledged branches 4) i []) places
 

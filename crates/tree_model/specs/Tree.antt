@@ -25,7 +25,7 @@ pub record Tree : Type 0 where
   -- the routers of that branch; 0 for any other number
   pub inside : ℕ → ℕ
 
--- a plain list's tree: node v has entry v of each of three lists; their entries 0 are of no node
+-- the tree without summaries whose node v has entry v of each of three lists; their entries 0 are of no node
 abbrev pub treeOf : List ℕ → List ℕ → List ℕ → Tree
 treeOf parents bursts rates = record {
   nodes = length parents - 1;
@@ -104,7 +104,7 @@ isListed t v = (eqb v 1 || leb 1 (t .parent v)) && not (t .summary v)
 abbrev pub feeds : Tree → ℕ → ℕ → ℕ → Bool
 feeds t v from w = not (eqb w from) && (eqb (t .parent w) v || eqb (t .parent v) w)
 
--- v is a node, and `from` is a neighbour of v, or 0
+-- v is a number of the list, and `from` is a neighbour of v, or 0
 pub record Facing (t : Tree) (v from : ℕ) : Type 0 where
   pub node : 1 ≤ v
   pub known : v ≤ t .nodes

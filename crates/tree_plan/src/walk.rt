@@ -1,5 +1,5 @@
 // The loads of a tree by one walk away from the sink (document 02, E3: "a neighbour's output comes from that one's input"). Remaining nodes
-// fall at each step. What is required here `tree_model::plan_tree` meets.
+// fall at each step. What is required here `plan_tree` meets.
 ghost use mathlib.Core.Path.{_≡_};
 ghost use Prim.Native.Nat.{_≤_, _<_};
 ghost use lib.ListN.{length};
