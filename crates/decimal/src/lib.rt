@@ -86,7 +86,7 @@ pub fn put_number(out: &mut [u8], at: usize, n: u64) -> usize
 }
 
 // How many digits a number has.
-fn digits_of(n: u64) -> usize
+pub fn digits_of(n: u64) -> usize
     ensures { λ r. ⌜ r ≡ length (decimal n) ⌝ }
 {
     let mut k = 0;

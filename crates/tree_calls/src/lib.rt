@@ -20,9 +20,10 @@ use calls_model::Answer;
 use reason_print::put_reason;
 use refusals::Refusal;
 use refusals::Verdict;
-use report::LONGEST_TREE;
-use settings_model::Settings;
+use tree_decide::decide;
 use tree_plan::beside;
+use tree_plan::plan_length;
+use tree_plan::plan_within;
 
 // Plans the tree of a node list, and writes nothing.
 pub fn check_tree(
@@ -46,8 +47,7 @@ pub fn check_tree(
         ack as u64,
         loss as u64,
     );
-    let mut space = [0u8; 1];
-    answer_of(tree_plan::plan_tree(nodes, b, sink as u64, &mut space))
+    answer_of(plan_length(nodes, b, sink as u64))
 }
 
 // Plans the tree of a node list, and puts its text at the front of the lent buffer. A refused tree, also one whose text is longer than the
@@ -74,10 +74,11 @@ pub fn plan_tree(
         ack as u64,
         loss as u64,
     );
-    if out.len() < LONGEST_TREE {
-        return plan_where_room(nodes, b, sink as u64, out);
+    let plan = plan_within(nodes, b, sink as u64, out);
+    if out.len() < plan.length {
+        return refused(Refusal::LentTooShort);
     }
-    answer_of(tree_plan::plan_tree(nodes, b, sink as u64, out))
+    answer_of(plan)
 }
 
 // Puts one line of English at the front of the lent buffer: why the tree is refused, or that it is planned. A buffer that is shorter than the
@@ -104,25 +105,14 @@ pub fn explain_tree(
         ack as u64,
         loss as u64,
     );
-    let mut space = [0u8; 1];
-    let plan = tree_plan::plan_tree(nodes, b, sink as u64, &mut space);
-    let answer = answer_of(plan);
-    let verdict = plan.verdict;
+    let mut table = [0u64; 1];
+    let mut hops = [0u8; 1];
+    let decided = decide(nodes, b, sink as u64, &mut table, &mut hops);
+    let answer = answer_of(decided);
+    let verdict = decided.verdict;
     let mut line = [0u8; reason_print::LONGEST];
     let n = put_tree_verdict(&mut line, verdict);
     leave(answer.number, answer.place, &line[..n], out)
-}
-
-// The plan for a buffer that may be too short: the tree is planned for the text's length alone first, and then once more.
-fn plan_where_room(nodes: &[u8], b: Settings, sink: u64, out: &mut [u8]) -> Answer
-    ensures { λ r. ⌜ left r (now (out .exit)) ≡ planTree (now (nodes .entry)) b sink (now (out .entry)) ⌝ }
-{
-    let mut space = [0u8; 1];
-    let n = tree_plan::plan_tree(nodes, b, sink, &mut space).length;
-    if out.len() < n {
-        return refused(Refusal::LentTooShort);
-    }
-    answer_of(tree_plan::plan_tree(nodes, b, sink, out))
 }
 
 // Puts the line of a tree that was refused, or that it is planned, and answers its length.

@@ -1,40 +1,29 @@
 // Plans of surveyed trees (document 02, E3): from the bytes of a node list and the settings beside it to the plan's text, or the first
-// refusal of numbers 10 and 3 to 7.
+// refusal of numbers 10 and 3 to 7. A tree is decided once, and its text is put at most once.
 //
-// No public function has a `requires`: each answers every argument, as equations with definitions of specs/ say. Inner functions presume
-// what the checks before them have found; their `requires` say what.
+// No public function has a `requires`: each answers every argument.
 ghost use mathlib.Core.Path.{_≡_};
-ghost use Prim.Native.Nat.{_≤_};
+ghost use mathlib.Core.Bool.{cond};
+ghost use Prim.Native.Nat.{_≤_, min};
+ghost use lib.Dec.{leb};
+ghost use lib.ListN.{length};
 ghost use lib.Seq.{sets};
-ghost use Rattle.refusals.specs.declared.Verdict.the-variants.{Kept, Broken};
-ghost use Rattle.refusals.specs.Conditions.{firstBroken};
-ghost use Rattle.tree_model.specs.Tree.{treeOf};
+ghost use Rattle.refusals.specs.declared.Verdict.the-variants.{Kept};
 ghost use Rattle.tree_model.specs.Beside as definition;
 ghost use Rattle.tree_model.specs.Lines.{lines};
 ghost use Rattle.tree_model.specs.Promise.{Keeps};
-ghost use Rattle.tree_read_model.specs.Survey.{treeIn, surveyed, outcomeIn};
+ghost use Rattle.tree_read_model.specs.Survey.{treeIn, outcomeIn};
 ghost use Rattle.plan_model.specs.Plans.{answer, written};
 ghost use Rattle.report_model.specs.TreeText.{treeText};
-ghost use Rattle.tree_plan.specs.Inner.{Listing, listedOutcome};
-use crate::lists::read_list;
-use crate::plans::check_before_slots;
-use crate::plans::plan_checked;
-use crate::shape::sink_right;
+ghost use Rattle.node_table_model.specs.NodeRows.{nodesIn};
 use plan_common::refused_plan;
 use plan_model::Plan;
-use refusals::Refusal;
-use refusals::TreeRefusal;
 use refusals::Verdict;
+use report::LONGEST_TREE;
 use settings_model::Settings;
-
-mod lists; // the nodes of a list
-mod shape; // routers and depths
-mod walk; // the loads of a tree
-mod slots; // numbers 5 and 7
-mod figures; // the figures of a line
-mod routes; // ROUTE
-mod page; // the lines
-mod plans; // the plan of a tree
+use tree_decide::decide;
+use tree_print::print;
+use tree_print::printed_length;
 
 // The settings beside a node list, as settings of a row: what that row has besides breaks no rule.
 pub fn beside(bo: u64, so: u64, head: u64, payload: u64, ack: u64, loss: u64) -> Settings
@@ -65,55 +54,75 @@ pub fn plan_tree(input: &[u8], b: Settings, sink: u64, out: &mut [u8]) -> Plan
     ensures { λ _. ⌜ now (out .exit) ≡ sets (now (out .entry)) 0 (written treeText (outcomeIn (now (input .entry)) b sink)) ⌝ }
     ensures { λ r. ⌜ (r .verdict ≡ Kept → Keeps b (treeIn (now (input .entry))) sink (lines b (treeIn (now (input .entry))) sink)) ⌝ }
 {
-    let mut parents = [0u8; 255];
-    let mut bursts = [0u8; 255];
-    let mut rates = [0u32; 255];
-    let listed = read_list(input, &mut parents, &mut bursts, &mut rates);
-    let verdict = listed.verdict;
+    let mut table = [0u64; 2540];
+    let mut hops = [0u8; 1];
+    let decided = decide(input, b, sink, &mut table, &mut hops);
+    let verdict = decided.verdict;
     if let Verdict::Broken(refusal) = verdict {
         return refused_plan(refusal);
     }
-    let n = listed.nodes + 1;
-    plan_listed(&parents[..n], &bursts[..n], &rates[..n], b, sink, out)
+    let length = print(&table, decided.length / 10, out);
+    Plan {
+        verdict: Verdict::Kept,
+        length,
+    }
 }
 
-// Number 10 alone: whether a text lists a tree that keeps every rule, and the sink is one of its routers.
-pub fn check_list(input: &[u8], sink: u64) -> Verdict
-    ensures { λ r. ⌜ r ≡ firstBroken Broken Kept (surveyed (now (input .entry)) sink) ⌝ }
-{
-    let mut parents = [0u8; 255];
-    let mut bursts = [0u8; 255];
-    let mut rates = [0u32; 255];
-    let listed = read_list(input, &mut parents, &mut bursts, &mut rates);
-    let verdict = listed.verdict;
-    if let Verdict::Broken(_) = verdict {
-        return verdict;
-    }
-    let n = listed.nodes + 1;
-    if sink_right(&parents[..n], sink) {
-        return Verdict::Kept;
-    }
-    Verdict::Broken(Refusal::InTree(TreeRefusal::SinkNode))
-}
-
-// The plan of the nodes of a list that keeps number 10 but for the sink.
-fn plan_listed(
-    parents: &[u8],
-    bursts: &[u8],
-    rates: &[u32],
-    b: Settings,
-    sink: u64,
-    out: &mut [u8],
-) -> Plan
-    requires { ⌜ Listing (now parents) (now bursts) (now rates) ⌝ }
-    ensures { λ r. ⌜ r ≡ answer treeText (listedOutcome b (treeOf (now (parents .entry)) (now (bursts .entry)) (now (rates .entry))) sink) ⌝ }
+// The same, but a text that is longer than the lent memory is not put: every byte is then as it was.
+pub fn plan_within(input: &[u8], b: Settings, sink: u64, out: &mut [u8]) -> Plan
+    ensures { λ r. ⌜ r ≡ answer treeText (outcomeIn (now (input .entry)) b sink) ⌝ }
     ensures { λ r. ⌜ r .length ≤ 48576 ⌝ }
-    ensures { λ _. ⌜ now (out .exit) ≡ sets (now (out .entry)) 0
-        (written treeText (listedOutcome b (treeOf (now (parents .entry)) (now (bursts .entry)) (now (rates .entry))) sink)) ⌝ }
+    ensures { λ r. ⌜ now (out .exit) ≡ cond (leb (r .length) (length (now (out .entry))))
+        (sets (now (out .entry)) 0 (written treeText (outcomeIn (now (input .entry)) b sink))) (now (out .entry)) ⌝ }
+    ensures { λ r. ⌜ (r .verdict ≡ Kept → Keeps b (treeIn (now (input .entry))) sink (lines b (treeIn (now (input .entry))) sink)) ⌝ }
 {
-    let verdict = check_before_slots(parents, b, sink);
+    let mut table = [0u64; 2540];
+    let mut hops = [0u8; 1];
+    let decided = decide(input, b, sink, &mut table, &mut hops);
+    let verdict = decided.verdict;
     if let Verdict::Broken(refusal) = verdict {
         return refused_plan(refusal);
     }
-    plan_checked(parents, bursts, rates, b, sink as usize, out)
+    let length = print_within(&table, decided.length / 10, out);
+    Plan {
+        verdict: Verdict::Kept,
+        length,
+    }
+}
+
+// The same, but no text is put: its length alone is answered.
+pub fn plan_length(input: &[u8], b: Settings, sink: u64) -> Plan
+    ensures { λ r. ⌜ r ≡ answer treeText (outcomeIn (now (input .entry)) b sink) ⌝ }
+    ensures { λ r. ⌜ r .length ≤ 48576 ⌝ }
+{
+    let mut table = [0u64; 2540];
+    let mut hops = [0u8; 1];
+    let decided = decide(input, b, sink, &mut table, &mut hops);
+    let verdict = decided.verdict;
+    if let Verdict::Broken(refusal) = verdict {
+        return refused_plan(refusal);
+    }
+    let length = printed_length(&table, decided.length / 10);
+    Plan {
+        verdict: Verdict::Kept,
+        length,
+    }
+}
+
+// Puts the text of a table's lines where there is room for all of it, and answers its length. Where there is room for any text, its length
+// is not computed first.
+fn print_within(table: &[u64], nodes: usize, out: &mut [u8]) -> usize
+    ensures { λ r. ⌜ r ≡ length (treeText (nodesIn (now (table .entry)) (min nodes 254))) ⌝ }
+    ensures { λ r. ⌜ r ≤ 48576 ⌝ }
+    ensures { λ r. ⌜ now (out .exit) ≡ cond (leb r (length (now (out .entry))))
+        (sets (now (out .entry)) 0 (treeText (nodesIn (now (table .entry)) (min nodes 254)))) (now (out .entry)) ⌝ }
+{
+    if LONGEST_TREE <= out.len() {
+        return print(table, nodes, out);
+    }
+    let length = printed_length(table, nodes);
+    if length <= out.len() {
+        return print(table, nodes, out);
+    }
+    length
 }

@@ -13,8 +13,8 @@ use refusals::Verdict;
 use report::put_refusal;
 use row_program::LIMIT;
 use settings_model::Settings;
+use tree_list::check_list;
 use tree_plan::beside;
-use tree_plan::check_list;
 use tree_plan::plan_tree;
 use tree_program_model::Arguments;
 

@@ -4,15 +4,19 @@ use native.Mathlib.Omega.{arith}
 use lib.ListN.{replicate}
 use lib.Seq.{length-take-le}
 use Rattle.buffer.proofs.Putting.{put-front}
+use Rattle.refusals.specs.declared.Verdict.{Verdict}
 use Rattle.settings_model.specs.declared.Settings.{Settings}
 use Rattle.plan_model.specs.declared.Plan.{Plan}
+use Rattle.plan_model.specs.Plans.{answer}
 use Rattle.tree_model.specs.Beside.{beside}
 use Rattle.tree_read_model.specs.Survey.{outcomeIn}
 use Rattle.report_model.specs.TreeText.{treeText}
-use Rattle.plan_model.specs.Plans.{answer}
+use Rattle.node_table_model.specs.NodeRows.{treeTable}
+use Rattle.calls_model.specs.declared.Answer.{Answer}
 use Rattle.calls_model.specs.Trees.{checkTree, treeSpoken, explainTree}
 use Rattle.calls_model.proofs.Leaving.{plan-told}
 use Rattle.calls_model.proofs.ReasonLines.{line-again}
+use Rattle.tree_calls.proofs.Telling.{number-same, place-same, verdict-same}
 use borrow.Author.Needs.{needs}
 use Rattle.tree_calls.proofs.explain_tree.Statement.{statement}
 use Rattle.tree_calls.proofs.explain_tree.Tie as tie
@@ -20,11 +24,14 @@ use Rattle.tree_calls.proofs.explain_tree.Tie as tie
 beside-requires : tie.Need-beside-requires
 beside-requires c κs = search needs
 
-slice-aggregate-plan-tree : tie.Need-slice-aggregate-plan-tree
-slice-aggregate-plan-tree c = search needs
+slice-aggregate-decide : tie.Need-slice-aggregate-decide
+slice-aggregate-decide c = search needs
 
-plan-tree-requires : tie.Need-plan-tree-requires
-plan-tree-requires c κs = search needs
+slice-aggregate-decide-2 : tie.Need-slice-aggregate-decide-2
+slice-aggregate-decide-2 c = search needs
+
+decide-requires : tie.Need-decide-requires
+decide-requires c κs = search needs
 
 answer-of-requires : tie.Need-answer-of-requires
 answer-of-requires c κs = search needs
@@ -50,24 +57,28 @@ same-length c = search needs
 returns : tie.Need-returns
 unfolding explainTree checkTree treeSpoken
 returns c =
-    let a = c .before .before .before .before .before .before .before .before .before .before .before .before .before .before .before .args in
+    let a = c .before .before .before .before .before .before .before .before .before .before .before .before .before .before .before .before .before .args in
     let b = beside (a .bo) (a .so) (a .head) (a .payload) (a .ack) (a .loss) in
-    let plan = c .before .before .before .before .before .before .before .before .before .before .plan-tree in
-    let q = plan .ensures .0 ∙ ap (λ (s : Settings). answer treeText (outcomeIn (a .nodes .now) s (a .sink))) (c .before .before .before .before .before .before .before .before .before .before .before .before .beside .ensures) in
-    let t = plan-told treeText (outcomeIn (a .nodes .now) b (a .sink)) (plan .result) q _ (c .before .before .before .before .before .before .before .before .answer-of .ensures) in
+    let o = outcomeIn (a .nodes .now) b (a .sink) in
+    let d = c .before .before .before .before .before .before .before .before .before .before .before .decide in
+    let q = d .ensures .0 ∙ ap (λ (s : Settings). answer treeTable (outcomeIn (a .nodes .now) s (a .sink))) (c .before .before .before .before .before .before .before .before .before .before .before .before .before .before .beside .ensures) in
+    let t = plan-told treeTable o (d .result) q _ (c .before .before .before .before .before .before .before .before .answer-of .ensures) in
+    let n = ap (λ (x : Answer). x .number) t ∙ number-same treeTable treeText o in
+    let z = ap (λ (x : Answer). x .place) t ∙ place-same treeTable treeText o in
     let p = c .before .before .before .before .before .before .put-tree-verdict in
-    let v = ap (λ (x : Plan). treeSpoken (x .verdict)) q in
+    let v = ap treeSpoken (ap (λ (x : Plan). x .verdict) q ∙ verdict-same treeTable treeText o) in
     let e = put-front (p .last .0) (replicate 160 0) _ (p .result) (p .ensures .0) (omega (arith, p .ensures .1 .0)) (p .ensures .1 .1) ∙ v in
-    let l = rw (e, t) at (c .before .before .leave .ensures) in
-    (l, line-again treeText treeSpoken (λ r. refl) (outcomeIn (a .nodes .now) b (a .sink)) (a .out .now) _ _ l (omega (arith, c .before .before .leave .ok)))
+    let l = rw (e, n, z) at (c .before .before .leave .ensures) in
+    (l, line-again treeText treeSpoken (λ r. refl) o (a .out .now) _ _ l (omega (arith, c .before .before .leave .ok)))
 
 pub explain-tree-spec : {M : Type 1} → statement M
 explain-tree-spec =
     tie.close
     (tie.spec
     beside-requires
-    slice-aggregate-plan-tree
-    plan-tree-requires
+    slice-aggregate-decide
+    slice-aggregate-decide-2
+    decide-requires
     answer-of-requires
     slice-aggregate-put-tree-verdict
     put-tree-verdict-requires

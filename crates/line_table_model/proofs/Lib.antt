@@ -1,0 +1,5 @@
+-- Laws about the definitions of specs/. Assumes nothing.
+-- one line's numbers, put and read
+pub mod Numbers
+-- many lines, put and read back
+pub mod RowLaws
