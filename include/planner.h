@@ -102,7 +102,7 @@
  *       a text or a line (8), a line that is no reason.
  *     - What is written does not overlap what is read, and nobody else changes any of it during the call.
  *     - No length is above PTRDIFF_MAX (no object of C is).
- *     - 16 KB of stack are free (under 10 KB were measured, for a tree of 12 depths); for the entries for trees 128 KB (under 97 KB were
+ *     - 16 KB of stack are free (under 10 KB were measured, for a tree of 12 depths); for the entries for trees 128 KB (under 90 KB were
  *       measured, for a chain of 254 nodes).
  *
  * Calls may be made from several threads at once, each with its own buffer.

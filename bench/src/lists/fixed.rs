@@ -1,4 +1,4 @@
-//! The lists themselves: chains, a bushy tree and stars, all of the most nodes.
+//! The lists themselves: chains, a bushy tree and stars, of the most nodes and of half as many.
 
 use reference::{Beside, LIST_NAMES, MOST_NODES};
 
@@ -7,9 +7,8 @@ use reference::{Beside, LIST_NAMES, MOST_NODES};
 pub const SETTINGS: Beside =
     Beside { beacon_order: 14, superframe_order: 6, head: 19, data: 7, ack: 0, sink: 1, loss: 0 };
 
-const LAST: u32 = MOST_NODES as u32;
-/// A router in the middle of the chain.
-const MIDDLE: u32 = LAST / 2;
+/// The most nodes, and half as many: a call on these should take about half as long.
+const NODES: [u32; 2] = [MOST_NODES as u32, MOST_NODES as u32 / 2];
 /// The most reservations of a router.
 const SEVEN: u32 = 7;
 
@@ -27,18 +26,23 @@ impl Fixed {
     }
 }
 
-/// Four lists that are planned, and one with too many reservations at the root.
-pub fn lists() -> [Fixed; 5] {
+/// Each shape of the most nodes, then each of half as many.
+pub fn lists() -> Vec<Fixed> {
+    NODES.into_iter().flat_map(shapes).collect()
+}
+
+/// Of so many nodes four lists that are planned, and one with too many reservations at the root.
+fn shapes(last: u32) -> [Fixed; 5] {
     let at = |sink, title, list| Fixed { title, list, beside: Beside { sink, ..SETTINGS } };
-    let chain = written(|node| node - 1, |node| node == LAST);
-    let bushy = written(bushy_parent, |node| node > bushy_parent(LAST));
-    let star = |sensors: u32| written(|_| 1, |node| node > LAST - sensors);
+    let chain = written(last, |node| node - 1, |node| node == last);
+    let bushy = written(last, bushy_parent, |node| node > bushy_parent(last));
+    let star = |sensors: u32| written(last, |_| 1, |node| node > last - sensors);
     [
         at(1, "chain with a sensor at its far end, sink at the root", chain.clone()),
-        at(MIDDLE, "chain with a sensor at its far end, sink at node 127", chain),
+        at(last / 2, "chain with a sensor at its far end, sink in its middle", chain),
         at(1, "bushy tree of seven children each, all leaves sense", bushy),
         at(1, "star, seven of its leaves sense", star(SEVEN)),
-        at(1, "star, all its leaves sense", star(LAST - 1)),
+        at(1, "star, all its leaves sense", star(last - 1)),
     ]
 }
 
@@ -47,14 +51,14 @@ fn bushy_parent(node: u32) -> u32 {
     (node - 2) / SEVEN + 1
 }
 
-/// The list in which the nodes but the root have these parents, and these nodes sense one frame in each interval.
-fn written(parent: impl Fn(u32) -> u32, senses: impl Fn(u32) -> bool) -> Vec<u8> {
+/// The list of so many nodes in which all but the root have these parents, and these sense one frame in each interval.
+fn written(last: u32, parent: impl Fn(u32) -> u32, senses: impl Fn(u32) -> bool) -> Vec<u8> {
     let line = |node| {
         let parent = if node == 1 { 0 } else { parent(node) };
         let bucket = u32::from(senses(node));
         format!("{node} {parent} {bucket} {bucket}\n")
     };
-    let lines: String = (1..=LAST).map(line).collect();
+    let lines: String = (1..=last).map(line).collect();
     format!("{LIST_NAMES}\n{lines}").into_bytes()
 }
 
@@ -80,18 +84,21 @@ mod tests {
     }
 
     #[test]
-    fn lists_have_the_most_nodes() {
-        assert!(lists().iter().all(|fixed| fixed.nodes() == 254));
+    fn lists_have_the_most_nodes_and_half_as_many() {
+        let nodes: Vec<usize> = lists().iter().map(Fixed::nodes).collect();
+        assert_eq!(nodes, [[254; 5], [127; 5]].concat());
     }
 
     #[test]
     fn trees_are_as_said() {
         assert_eq!([0, 1, 2, 3, 4].map(counts), [(253, 1, 1), (253, 1, 1), (37, 7, 217), (1, 253, 7), (1, 253, 253)]);
+        assert_eq!([5, 6, 7, 8, 9].map(counts), [(126, 1, 1), (126, 1, 1), (18, 7, 109), (1, 126, 7), (1, 126, 126)]);
         assert_eq!([0, 1].map(|place| values(place)[253].clone()), [[254, 253, 1, 1]; 2]);
     }
 
     #[test]
     fn sinks_are_as_said() {
-        assert_eq!(lists().map(|fixed| fixed.beside.sink), [1, 127, 1, 1, 1]);
+        let sinks: Vec<u32> = lists().iter().map(|fixed| fixed.beside.sink).collect();
+        assert_eq!(sinks, [1, 127, 1, 1, 1, 1, 63, 1, 1, 1]);
     }
 }

@@ -7,9 +7,7 @@ use lib.ListN.{length, getD, take, drop, length-append}
 use lib.Seq.{sets, sets-eq, take-suc, take-length}
 use Rattle.network.specs.Counting.{join}
 use Rattle.buffer.proofs.Putting.{sets-sets}
-use Rattle.row_model.specs.declared.Line.{Line}
-use Rattle.line_table_model.specs.Rows.{numbersOf, lineIn, rowsOf, rowsIn, tableOf, linesIn}
-use Rattle.line_table_model.proofs.Numbers.{numbers-length, line-back, line-behind}
+use Rattle.line_table_model.specs.Rows.{rowsOf, rowsIn}
 
 -- A sort of line: its numbers, how it is read at a position, that it has so many, that it is read back at the front, and that numbers
 -- before it are passed over
@@ -66,20 +64,3 @@ module _ {A : Type 0} (width : ℕ) (numbers : A → List ℕ) (read : List ℕ 
   pub rows-more : (ns : List ℕ) (n : ℕ) → rowsIn width read ns (suc n) ≡ rowsIn width read ns n ++ (read ns (width * n) ∷ [])
   unfolding rowsIn join
   rows-more ns n = refl
-
--- ---- a row's lines
-
-pub table-length : (p : List Line) → length (tableOf p) ≡ 9 * length p
-table-length p = rows-length 9 numbersOf lineIn numbers-length line-back line-behind p
-
--- one line more, put behind those that are there
-pub table-put : (e : List ℕ) (ls : List Line) (l : Line) → sets (sets e 0 (tableOf ls)) (9 * length ls) (numbersOf l) ≡ sets e 0 (tableOf (ls ++ (l ∷ [])))
-table-put e ls l = rows-put 9 numbersOf lineIn numbers-length line-back line-behind e ls l
-
--- a plan's numbers at the front of a table that has room for them are its lines
-pub lines-back : (p : List Line) (e : List ℕ) → length (tableOf p) ≤ length e → linesIn (sets e 0 (tableOf p)) (length p) ≡ p
-lines-back p e h = rows-back 9 numbersOf lineIn numbers-length line-back line-behind p e h
-
--- one line more that stands in a table
-pub lines-more : (ns : List ℕ) (n : ℕ) → linesIn ns (suc n) ≡ linesIn ns n ++ (lineIn ns (9 * n) ∷ [])
-lines-more ns n = rows-more 9 numbersOf lineIn numbers-length line-back line-behind ns n

@@ -1,12 +1,11 @@
 -- What an outcome is told as, whatever its plan is put as, and what a plan that is put whole or not at all leaves. Assumes nothing.
-use mathlib.Core.Path.{_≡_, refl, sym, ap, _∙_}
+use mathlib.Core.Path.{_≡_, refl, _∙_}
 use mathlib.Core.Bool.{cond}
 use mathlib.Core.List.{List}
 use Prim.Native.Nat.{ℕ, _≤_, _<_}
 use lib.Dec.{leb}
 use lib.ListN.{length}
 use borrow.Author.Tests.{le-leb, lt-leb}
-use Rattle.refusals.specs.declared.Verdict.{Verdict}
 use Rattle.refusals.specs.Outcome.{Outcome, Planned, Refused}
 use Rattle.plan_model.specs.Plans.{answer, planned, refused}
 use Rattle.calls_model.specs.Calls.{told}

@@ -22,10 +22,9 @@ use refusals::Refusal;
 use refusals::Verdict;
 use tree_decide::decide;
 use tree_plan::beside;
-use tree_plan::plan_length;
 use tree_plan::plan_within;
 
-// Plans the tree of a node list, and writes nothing.
+// Plans the tree of a node list, and writes nothing: no text fits one byte.
 pub fn check_tree(
     nodes: &[u8],
     bo: u32,
@@ -47,7 +46,8 @@ pub fn check_tree(
         ack as u64,
         loss as u64,
     );
-    answer_of(plan_length(nodes, b, sink as u64))
+    let mut space = [0u8; 1];
+    answer_of(plan_within(nodes, b, sink as u64, &mut space))
 }
 
 // Plans the tree of a node list, and puts its text at the front of the lent buffer. A refused tree, also one whose text is longer than the

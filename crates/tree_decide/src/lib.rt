@@ -13,17 +13,15 @@ ghost use Rattle.tree_read_model.specs.Survey.{treeIn, outcomeIn};
 ghost use Rattle.plan_model.specs.Plans.{answer, written};
 ghost use Rattle.node_table_model.specs.NodeRows.{treeTable};
 ghost use Rattle.tree_plan_model.specs.Hops.{hopsOf};
-use crate::hops::put_hops;
 use crate::lines::put_lines;
 use plan_common::refused_plan;
 use plan_common::timing_of;
 use plan_model::Plan;
 use refusals::Verdict;
 use settings_model::Settings;
-use tree_ways::ways_of;
+use tree_hops::hops_of;
 
 mod figures; // of a node
-mod hops; // where frames go next
 mod lines; // the lines of the plan
 
 // Decides on the tree of a text with any settings and any sink: its verdict, and, as far as there is room, ten numbers for each node at the
@@ -40,7 +38,7 @@ pub fn decide(input: &[u8], b: Settings, sink: u64, table: &mut [u64], hops: &mu
     let mut notes = [0u64; 768];
     let mut depths = [0u8; 256];
     let mut ways = [0u64; 256];
-    let stage = ways_of(input, b, sink, &mut notes, &mut depths, &mut ways);
+    let stage = hops_of(input, b, sink, &mut notes, &mut depths, &mut ways, hops);
     let verdict = stage.verdict;
     if let Verdict::Broken(refusal) = verdict {
         return refused_plan(refusal);
@@ -59,7 +57,6 @@ pub fn decide(input: &[u8], b: Settings, sink: u64, table: &mut [u64], hops: &mu
         sink as usize,
         table,
     );
-    put_hops(&parents[..n], &notes, sink as usize, hops);
     Plan {
         verdict: Verdict::Kept,
         length: 10 * nodes,

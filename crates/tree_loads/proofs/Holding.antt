@@ -1,9 +1,9 @@
 -- From a list that was read to the loads of its tree: what the stage answers and leaves. Assumes nothing.
 use mathlib.Core.Path.{_≡_, refl, sym, ap, _∙_}
-use mathlib.Core.List.{List, _∷_, _++_, append-assoc}
+use mathlib.Core.List.{List, _++_, append-assoc}
 use Prim.Native.Nat.{ℕ, suc, _+_, _-_, _≤_, _<_}
 use native.Mathlib.Omega.{arith}
-use lib.ListN.{length, getD, take, length-map, length-take}
+use lib.ListN.{length, take, length-map, length-take}
 use Rattle.refusals.specs.declared.Refusal.{Refusal}
 use Rattle.refusals.specs.declared.Verdict.the-variants.{Kept, Broken}
 use Rattle.refusals.specs.Conditions.{Condition}
@@ -12,7 +12,6 @@ use Rattle.links.specs.declared.Timing.{Timing}
 use Rattle.settings_model.specs.declared.Settings.{Settings}
 use Rattle.settings_model.specs.Checks.{checks}
 use Rattle.row_model.specs.Times.{timingOf}
-use Rattle.tree_model.specs.Tree.{Tree, treeOf}
 use Rattle.tree_model.specs.Checks.{routersFit}
 use Rattle.tree_read_model.specs.Entries.{entryIn}
 use Rattle.tree_read_model.specs.Survey.{nodeLines, parentIn, treeFrom, treeIn, named, listed, sinkRight, surveyed}

@@ -1,9 +1,9 @@
 -- A node's neighbours along the child lists: the walk equals the gathering over all nodes. Assumes nothing.
-use mathlib.Core.Path.{_≡_, refl, sym, ap, _∙_}
+use mathlib.Core.Path.{_≡_, refl, sym, _∙_}
 use mathlib.Core.Logic.{inl, inr, ⊎-elim}
 use mathlib.Core.Bool.{Bool, true, false, _||_}
 use mathlib.Core.List.{List}
-use Prim.Native.Nat.{ℕ, zero, suc, _+_, _-_, _*_, _≤_, _<_, _^_}
+use Prim.Native.Nat.{ℕ, zero, suc, _+_, _-_, _≤_, _<_}
 use native.Mathlib.Numerals.{add-one}
 use native.Mathlib.Decide.{ℕ-discrete, decLe}
 use native.Mathlib.Omega.{arith}
@@ -19,7 +19,7 @@ use Rattle.tree_model.proofs.Steps as steps
 use Rattle.tree_plan_model.specs.Inner.{shape, Noted}
 use Rattle.tree_loads.proofs.Turns.{soFar, none-yet, more, same}
 use Rattle.tree_loads.proofs.Notes.{NotedTo, noted-none, noted-more, noted-same}
-use Rattle.tree_plan_model.specs.Children.{Least, Linked, Beside, Nearest}
+use Rattle.tree_plan_model.specs.Children.{Least, Beside, Nearest}
 
 -- ---- the nearest neighbour
 

@@ -10,7 +10,6 @@ use lib.Seq.{getD-set-same, getD-set-other}
 use borrow.Author.Tests.{lt-ltb}
 use Rattle.links.specs.declared.Load.{Load}
 use Rattle.links.specs.declared.Timing.{Timing}
-use Rattle.links.specs.Link.{load}
 use Rattle.tree_model.specs.Tree.{Tree, feeds, Planted, Facing, WithoutGaps}
 use Rattle.tree_model.specs.Loads.{inputOf}
 use Rattle.tree_model.specs.Ways.{Beyond, here, there}

@@ -16,7 +16,7 @@ use Rattle.tree_model.specs.declared.NodeLine.{NodeLine}
 use Rattle.tree_model.specs.Outcome.{TreeOutcome}
 use Rattle.plan_model.specs.declared.Plan.{Plan}
 use Rattle.plan_model.specs.Plans.{planned, refused, answer, written}
-use Rattle.plan_model.proofs.Answered.{answer-planned, answer-refused, planned-answer, refused-answer, refused-put, planned-put}
+use Rattle.plan_model.proofs.Answered.{answer-planned, answer-refused, refused-put, planned-put}
 use Rattle.report_model.specs.TreeText.{treeText}
 use Rattle.node_table_model.specs.NodeRows.{treeTable, nodesIn}
 use Rattle.node_table_model.proofs.NodeLaws.{nodes-length, nodes-back}

@@ -68,7 +68,8 @@ pub fn plan_tree(input: &[u8], b: Settings, sink: u64, out: &mut [u8]) -> Plan
     }
 }
 
-// The same, but a text that is longer than the lent memory is not put: every byte is then as it was.
+// The same, but a text that is longer than the lent memory is not put: every byte is then as it was. So a buffer of one byte asks for the
+// text's length alone, and nothing is printed.
 pub fn plan_within(input: &[u8], b: Settings, sink: u64, out: &mut [u8]) -> Plan
     ensures { λ r. ⌜ r ≡ answer treeText (outcomeIn (now (input .entry)) b sink) ⌝ }
     ensures { λ r. ⌜ r .length ≤ 48576 ⌝ }
@@ -84,25 +85,6 @@ pub fn plan_within(input: &[u8], b: Settings, sink: u64, out: &mut [u8]) -> Plan
         return refused_plan(refusal);
     }
     let length = print_within(&table, decided.length / 10, out);
-    Plan {
-        verdict: Verdict::Kept,
-        length,
-    }
-}
-
-// The same, but no text is put: its length alone is answered.
-pub fn plan_length(input: &[u8], b: Settings, sink: u64) -> Plan
-    ensures { λ r. ⌜ r ≡ answer treeText (outcomeIn (now (input .entry)) b sink) ⌝ }
-    ensures { λ r. ⌜ r .length ≤ 48576 ⌝ }
-{
-    let mut table = [0u64; 2540];
-    let mut hops = [0u8; 1];
-    let decided = decide(input, b, sink, &mut table, &mut hops);
-    let verdict = decided.verdict;
-    if let Verdict::Broken(refusal) = verdict {
-        return refused_plan(refusal);
-    }
-    let length = printed_length(&table, decided.length / 10);
     Plan {
         verdict: Verdict::Kept,
         length,

@@ -1,7 +1,7 @@
--- The answer as a whole: number 10, then 3, 4 and 6, then 5 and 7, then the plan; and demand 3 of it. Assumes nothing.
-use mathlib.Core.Path.{_≡_, sym, ap, _∙_, subst}
+-- Number 10, then 3, 4 and 6: the answer to each part, and what holds where it is kept. Assumes nothing.
+use mathlib.Core.Path.{_≡_, sym, ap, _∙_}
 use mathlib.Core.Bool.{true, false, _&&_, and-eq-true-iff}
-use mathlib.Core.List.{List, _++_, append-assoc}
+use mathlib.Core.List.{List, _++_}
 use Prim.Native.Nat.{ℕ, suc, _+_, _-_, _^_, _≤_, _<_}
 use native.Mathlib.Omega.{arith}
 use lib.Dec.{leb}
@@ -11,31 +11,24 @@ use Rattle.refusals.specs.declared.Refusal.{Refusal}
 use Rattle.refusals.specs.declared.Refusal.the-variants.{Superframes, InTree}
 use Rattle.refusals.specs.declared.TreeRefusal.the-variants.{SinkNode}
 use Rattle.refusals.specs.declared.Verdict.the-variants.{Kept, Broken}
-use Rattle.refusals.specs.Conditions.{Condition, Unbroken, firstBroken}
-use Rattle.refusals.proofs.Answering.{verdict, answer-broken, answer-kept, first-part-answers, second-part-answers}
+use Rattle.refusals.specs.Conditions.{Unbroken, firstBroken}
+use Rattle.refusals.proofs.Answering.{verdict, first-part-answers, second-part-answers}
 use Rattle.refusals.proofs.Unbroken.{kept-unbroken, unbroken-left, unbroken-right}
 use Rattle.settings_model.specs.declared.Settings.{Settings}
 use Rattle.settings_model.specs.Checks.{checks}
 use Rattle.settings_model.specs.Laws.{Checked}
 use Rattle.settings_model.proofs.LawsHold.{unbroken-where-checked}
 use Rattle.row_model.specs.Checks.{superframes}
-use Rattle.plan_model.specs.declared.Plan.{Plan}
 use Rattle.plan_model.specs.Plans.{answer}
-use Rattle.plan_model.proofs.Answered.{answer-planned}
 use Rattle.plan_model.proofs.Conditions.{over-limit, in-limit}
-use Rattle.report_model.specs.TreeText.{treeText}
 use Rattle.tree_model.specs.Tree.{Tree, treeOf, isNumber, isRouter, routers}
-use Rattle.tree_model.specs.Lines.{lines}
-use Rattle.tree_model.specs.Checks.{routersFit, routersFrom, conditions}
-use Rattle.refusals.specs.Outcome.{Planned, Refused}
-use Rattle.tree_model.specs.Promise.{Keeps}
+use Rattle.tree_model.specs.Checks.{routersFit}
 use Rattle.tree_model.proofs.PlainLists.{planted, without-gaps}
-use Rattle.tree_model.proofs.LawsHold.{planned-exactly}
-use Rattle.tree_read_model.specs.Survey.{nodeLines, parentIn, treeFrom, treeIn, named, linesFrom, listed, sinkRight, surveyed, outcomeIn}
+use Rattle.tree_read_model.specs.Survey.{nodeLines, parentIn, treeFrom, treeIn, named, linesFrom, listed, sinkRight, surveyed}
 use Rattle.tree_read_model.specs.Entries.{entryIn}
 use Rattle.tree_read_model.proofs.Listed.{consecutive, ranged, tree-nodes}
-use Rattle.tree_read_model.proofs.LawsHold.{kept-lines, planned-text, every-text-keeps}
-use Rattle.tree_plan_model.specs.Inner.{Listing, checksBeforeSlots, listedOutcome, loadedOutcome}
+use Rattle.tree_read_model.proofs.LawsHold.{kept-lines}
+use Rattle.tree_plan_model.specs.Inner.{Listing, checksBeforeSlots}
 use Rattle.tree_plan_model.specs.Lists.{Whole}
 
 -- ---- the sink's condition, 3, 4 and 6
@@ -94,48 +87,6 @@ module _ (b : Settings) (t : Tree) (sink : ℕ) where
         let e = and-eq-true-iff (leb 1 sink) (leb sink (t .nodes)) .0 (d .0) in
         (leb-true 1 sink (e .0), leb-true sink (t .nodes) (e .1))
 
-  -- ---- one part of the conditions after the other
-
-  in-parts : sinkRight t sink ++ conditions b t sink ≡ checksBeforeSlots b t sink ++ routersFrom b t sink (t .nodes) 1
-  unfolding conditions checksBeforeSlots
-  in-parts =
-      sym (append-assoc (sinkRight t sink) (checks b ++ routersFit b t) (routersFrom b t sink (t .nodes) 1))
-      ∙ ap (λ (cs : List (Condition Refusal)). cs ++ routersFrom b t sink (t .nodes) 1) (sym (append-assoc (sinkRight t sink) (checks b) (routersFit b t)))
-
-  pub before-broken : (r : Refusal) → verdict (checksBeforeSlots b t sink) ≡ Broken r → Refused r ≡ listedOutcome b t sink
-  unfolding listedOutcome
-  before-broken r e = rw in-parts (first-part-answers Refused (Planned (lines b t sink)) (checksBeforeSlots b t sink) (routersFrom b t sink (t .nodes) 1) r e)
-
-  pub before-kept : verdict (checksBeforeSlots b t sink) ≡ Kept → loadedOutcome b t sink ≡ listedOutcome b t sink
-  unfolding listedOutcome loadedOutcome
-  before-kept e = rw in-parts (second-part-answers Refused (Planned (lines b t sink)) (checksBeforeSlots b t sink) (routersFrom b t sink (t .nodes) 1) e)
-
-  pub slots-broken : (r : Refusal) → verdict (routersFrom b t sink (t .nodes) 1) ≡ Broken r → Refused r ≡ loadedOutcome b t sink
-  unfolding loadedOutcome
-  slots-broken r e = sym (answer-broken Refused (Planned (lines b t sink)) (routersFrom b t sink (t .nodes) 1) r e)
-
-  pub slots-kept : verdict (routersFrom b t sink (t .nodes) 1) ≡ Kept → Planned (lines b t sink) ≡ loadedOutcome b t sink
-  unfolding loadedOutcome
-  slots-kept e = sym (answer-kept Refused (Planned (lines b t sink)) (routersFrom b t sink (t .nodes) 1) e)
-
--- ---- the text
-
-module _ (input : List ℕ) (b : Settings) (sink : ℕ) where
-  abbrev read : List (Condition Refusal)
-  read = named input ++ listed (nodeLines input)
-
-  pub text-broken : (r : Refusal) → verdict read ≡ Broken r → Refused r ≡ outcomeIn input b sink
-  unfolding outcomeIn surveyed
-  text-broken r e =
-      rw (append-assoc read (sinkRight (treeIn input) sink) (conditions b (treeIn input) sink))
-      (first-part-answers Refused (Planned (lines b (treeIn input) sink)) read (sinkRight (treeIn input) sink ++ conditions b (treeIn input) sink) r e)
-
-  pub text-kept : verdict read ≡ Kept → listedOutcome b (treeIn input) sink ≡ outcomeIn input b sink
-  unfolding outcomeIn surveyed listedOutcome
-  text-kept e =
-      rw (append-assoc read (sinkRight (treeIn input) sink) (conditions b (treeIn input) sink))
-      (second-part-answers Refused (Planned (lines b (treeIn input) sink)) read (sinkRight (treeIn input) sink ++ conditions b (treeIn input) sink) e)
-
 -- number 10 alone
 module _ (input : List ℕ) (sink : ℕ) where
   pub list-broken : (r : Refusal) → verdict (named input ++ listed (nodeLines input)) ≡ Broken r → Broken r ≡ verdict (surveyed input sink)
@@ -173,12 +124,3 @@ module _ (input : List ℕ) (k : verdict (named input ++ listed (nodeLines input
         ranged = ranged (nodeLines input) (kept .1) (kept .0);
         withoutGaps = without-gaps (treeFrom (nodeLines input)) (consecutive (nodeLines input) (kept .1) (kept .0));
       })
-
--- ---- demand 3
-
-pub plan-keeps : (input : List ℕ) (b : Settings) (sink : ℕ) (r : Plan) → r ≡ answer treeText (outcomeIn input b sink) → r .verdict ≡ Kept
-    → Keeps b (treeIn input) sink (lines b (treeIn input) sink)
-plan-keeps input b sink r e k =
-    let q = answer-planned treeText (outcomeIn input b sink) (sym (ap (λ (y : Plan). y .verdict) e) ∙ k) in
-    let p = q .0 in
-    subst (Keeps b (treeIn input) sink) (sym (planned-exactly b (treeIn input) sink p .0 (planned-text input b sink p (q .1) .1) .1)) (every-text-keeps input b sink p (q .1))

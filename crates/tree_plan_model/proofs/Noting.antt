@@ -8,6 +8,7 @@ use lib.ListN.{getD, set}
 use borrow.Author.Tests.{lt-ltb, le-ltb}
 use Rattle.links.specs.declared.Load.{Load}
 use Rattle.links.specs.Link.{load}
+use Rattle.tree_plan_model.specs.Tables.{superframeIn}
 use Rattle.tree_plan_model.specs.Inner.{loadIn, towardsIn, loadNoted, towardsNoted, noteSet}
 
 module _ (ns : List ℕ) (v : ℕ) where
@@ -49,3 +50,7 @@ superframe-own v t p h = rw (lt-ltb v t h)
 
 pub superframe-parents : (v t p : ℕ) → t ≤ v → p ≡ cond (ltb v t) v p
 superframe-parents v t p h = rw (le-ltb v t h)
+
+pub superframe-read : (ps ns : List ℕ) (v r : ℕ) → v < 256 → r ≡ cond (ltb v (towardsNoted ns v)) v (getD ps v 0) → r ≡ superframeIn ps ns v
+unfolding superframeIn
+superframe-read ps ns v r h e = rw (← towards-noted ns v h) e

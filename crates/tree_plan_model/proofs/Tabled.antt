@@ -1,13 +1,14 @@
 -- The tables of a surveyed tree, once the walk has made its notes: what the functions on them require and answer, said of the tree. Assumes
 -- nothing.
-use mathlib.Core.Path.{_≡_, refl, sym, ap, subst, _∙_}
+use mathlib.Core.Path.{_≡_, refl, sym, ap, _∙_}
 use mathlib.Core.Bool.{not, cond, _&&_}
 use mathlib.Core.List.{List, [], _∷_}
 use Prim.Native.Nat.{ℕ, zero, suc, _+_, _-_, _*_, _≤_, _<_}
+use native.Mathlib.Numerals.{add-one}
 use native.Mathlib.Decide.{ℕ-discrete}
 use native.Mathlib.Omega.{arith}
 use lib.Dec.{eqb, ltb}
-use lib.ListN.{length, getD, length-map}
+use lib.ListN.{length, take, length-take, length-append}
 use borrow.Author.Tests.{eq-eqb, ne-eqb}
 use Rattle.measure.specs.Measures.{slots}
 use Rattle.network.specs.Counting.{bit, join}
@@ -17,6 +18,8 @@ use Rattle.links.specs.declared.Load.{Load}
 use Rattle.links.specs.Link.{slotsOf}
 use Rattle.settings_model.specs.declared.Settings.{Settings}
 use Rattle.settings_model.specs.Laws.{Checked}
+use Rattle.plan_model.specs.Times.{timingAnswered}
+use Rattle.plan_model.proofs.TimesMade.{timing-fits}
 use Rattle.row_model.specs.Times.{timingOf}
 use Rattle.row_model.proofs.LoadLaws.{timed, interval-low, exchange-low}
 use Rattle.tree_model.specs.Tree.{Tree, treeOf, Plain}
@@ -28,7 +31,7 @@ use Rattle.tree_model.proofs.PlainLists.{line-per-node}
 use Rattle.tree_model.proofs.LoadBounds.{Short, Low, input-low}
 use Rattle.tree_model.proofs.Shares.{sum-ap}
 use Rattle.tree_model.proofs.WayLaws.{facing, next-node, superframe-led}
-use Rattle.tree_read_model.specs.Survey.{nodeLines, treeFrom, treeIn}
+use Rattle.tree_read_model.specs.Survey.{treeFrom, treeIn}
 use Rattle.tree_plan_model.specs.Inner.{Listing, Given, Right, AllRight, loadIn, towardsIn}
 use Rattle.tree_plan_model.specs.Tables.{Light, Loaded, Led, superframeIn, reservesIn, reservationsIn, takenIn, usedIn, routerOf, routersInFrom, linkFor, sinkFor, figuresFor, delayIn, wayIn, routeIn, lineIn, linesIn}
 use Rattle.tree_plan_model.specs.Stages.{parentsIn, burstsIn, ratesIn, LoadsHeld}
@@ -181,6 +184,12 @@ module _ (b : Settings) (C : Checked b) (ps bs rs : List ℕ) (G : Listing ps bs
       plain : Plain T
       plain = record { withoutGaps = G .withoutGaps; withoutSummaries = λ v. refl; noneInside = λ v. refl }
 
+-- each node has a line
+pub lines-length : (a : Timing) (ps ns : List ℕ) (sink n : ℕ) → length (linesIn a ps ns sink n) ≡ n
+unfolding linesIn join
+lines-length a ps ns sink zero = refl
+lines-length a ps ns sink (suc n) = length-append (join n (λ i. lineIn a ps ns sink (suc i) ∷ [])) (lineIn a ps ns sink (suc n) ∷ []) ∙ omega (arith, lines-length a ps ns sink n)
+
 -- ---- all of it, of a text and the times that were computed
 
 pub record Tabled (input : List ℕ) (b : Settings) (a : Timing) (sink : ℕ) (ns : List ℕ) : Type 0 where
@@ -205,6 +214,22 @@ tabled input b sink n ks ns a e H =
       towards = λ v one most. H .right .each v one most .towards;
       superframe = λ v one most. superframe-right b (H .checked) ps (burstsIn input) (ratesIn input) (H .listing) sink (H .sinkSome) sn ns (H .right) v one (omega (arith, most, H .listing .some));
     })
+
+-- the same of what a stage leaves: the parents are the first entries of the table of kin
+module _ (input : List ℕ) (b : Settings) (sink n : ℕ) (ks ns : List ℕ) (H : LoadsHeld input b sink n ks ns) where
+  pub few-held : n ≤ 254
+  unfolding treeIn treeFrom
+  few-held = omega (arith, H .nodes, H .listing .planted .few)
+
+  pub parents-held : take (n + 1) ks ≡ parentsIn input
+  parents-held = rw (add-one n) (H .parents)
+
+  pub room-held : n + 1 ≤ length ks
+  unfolding treeIn treeFrom
+  room-held = omega (arith, H .nodes, length-take (suc n) ks, ap length (H .parents))
+
+  pub tables-held : (a : Timing) → a ≡ timingAnswered b → Tabled input b a sink ns
+  tables-held a e = tabled input b sink n ks ns a (e ∙ timing-fits b (H .checked)) H
 
 -- what the walk asks for
 pub given : (b : Settings) → Checked b → (ps bs rs : List ℕ) → Listing ps bs rs → (a : Timing) → a ≡ timingOf b → Given a ps bs rs

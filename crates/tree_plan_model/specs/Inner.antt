@@ -6,7 +6,7 @@ use Prim.Native.Nat.{ℕ, _+_, _≤_}
 use lib.Dec.{ltb}
 use lib.ListN.{length, getD, take, set}
 use Rattle.refusals.specs.declared.Refusal.{Refusal}
-use Rattle.refusals.specs.Conditions.{Condition, firstBroken}
+use Rattle.refusals.specs.Conditions.{Condition}
 use Rattle.settings_model.specs.declared.Settings.{Settings}
 use Rattle.settings_model.specs.Checks.{checks}
 use Rattle.links.specs.declared.Load.{Load}
@@ -16,10 +16,7 @@ use Rattle.links.specs.Answers.{Timed}
 use Rattle.tree_model.specs.Tree.{Tree, treeOf, Planted, Ranged, WithoutGaps}
 use Rattle.tree_model.specs.Ways.{next, Beyond}
 use Rattle.tree_model.specs.Loads.{inputOf}
-use Rattle.tree_model.specs.Lines.{lines}
-use Rattle.tree_model.specs.Checks.{routersFit, routersFrom, conditions}
-use Rattle.refusals.specs.Outcome.{Planned, Refused}
-use Rattle.tree_model.specs.Outcome.{TreeOutcome}
+use Rattle.tree_model.specs.Checks.{routersFit, conditions}
 use Rattle.tree_model.proofs.LoadBounds.{Short}
 use Rattle.tree_read_model.specs.Survey.{sinkRight}
 
@@ -49,13 +46,6 @@ pub record Given (a : Timing) (ps bs rs : List ℕ) : Type 0 where
 -- the conditions before numbers 5 and 7: the sink's, 3, 4 and 6
 unfoldable pub checksBeforeSlots : Settings → Tree → ℕ → List (Condition Refusal)
 checksBeforeSlots b t sink = sinkRight t sink ++ checks b ++ routersFit b t
-
--- the outcome of a tree that keeps number 10 but for the sink, and of one that keeps these
-unfoldable pub listedOutcome : Settings → Tree → ℕ → TreeOutcome
-listedOutcome b t sink = firstBroken Refused (Planned (lines b t sink)) (sinkRight t sink ++ conditions b t sink)
-
-unfoldable pub loadedOutcome : Settings → Tree → ℕ → TreeOutcome
-loadedOutcome b t sink = firstBroken Refused (Planned (lines b t sink)) (routersFrom b t sink (t .nodes) 1)
 
 -- ---- notes
 

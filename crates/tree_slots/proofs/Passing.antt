@@ -8,7 +8,7 @@ use native.Mathlib.Decide.{decLe}
 use native.Mathlib.Omega.{arith}
 use lib.Dec.{eqb, ltb}
 use lib.ListN.{length, getD, set, replicate}
-use borrow.Author.Tests.{eq-eqb, ne-eqb, lt-ltb, le-ltb}
+use borrow.Author.Tests.{eq-eqb, ne-eqb}
 use Rattle.measure.specs.declared.Slots.{Slots}
 use Rattle.measure.specs.Measures.{slots, upTo64}
 use Rattle.measure.proofs.Limits.{up-to-fits}
@@ -22,9 +22,9 @@ use Rattle.links.proofs.Making.{reservation-fits}
 use Rattle.links.proofs.LinkLaws.{slots-long}
 use Rattle.tree_model.specs.Tree.{sumTo}
 use Rattle.tree_model.proofs.Shares.{sum-ap}
-use Rattle.tree_plan_model.specs.Inner.{loadIn, towardsIn, loadNoted, towardsNoted}
+use Rattle.tree_plan_model.specs.Inner.{loadIn, towardsIn, loadNoted}
 use Rattle.tree_plan_model.specs.Tables.{Light, Loaded, superframeIn, carriesIn, reservesIn, reservationsIn, takenIn, usedIn, Counted}
-use Rattle.tree_plan_model.proofs.Noting.{load-noted, towards-noted}
+use Rattle.tree_plan_model.proofs.Noting.{load-noted}
 use Rattle.tree_slots.proofs.Scatter.{share, Tallied, tally-none, tally-more, tally-same, tally-most}
 
 -- ---- one link
@@ -37,15 +37,6 @@ module _ (ns : List ℕ) (sink v : ℕ) where
   pub others-carry : (l : Load) → (v ≡ sink → ⊥) → v < 256 → l ≡ loadNoted ns v → ltb 0 (l .rate .0) ≡ carriesIn ns sink v
   unfolding carriesIn
   others-carry l n h e = rw (ne-eqb v sink n, e, load-noted ns v h)
-
-module _ (ps ns : List ℕ) (v n : ℕ) (h : v < 256) (e : n ≡ towardsNoted ns v) where
-  pub superframe-own : v < n → v ≡ superframeIn ps ns v
-  unfolding superframeIn
-  superframe-own l = rw (← towards-noted ns v h, ← e, lt-ltb v n l)
-
-  pub superframe-parents : n ≤ v → getD ps v 0 ≡ superframeIn ps ns v
-  unfolding superframeIn
-  superframe-parents l = rw (← towards-noted ns v h, ← e, le-ltb v n l)
 
 -- the slots of the answered reservation are the rate's
 pub slots-answered : (a : Timing) (ns : List ℕ) (v : ℕ) (l : Load) (k : Reservation) → Light a (loadIn ns v) → v < 256 → l ≡ loadNoted ns v → k ≡ reservationAnswered a (l .rate)

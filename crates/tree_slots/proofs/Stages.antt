@@ -1,10 +1,8 @@
 -- All conditions, part after part, and what holds of the tables where 10, 3, 4 and 6 are kept. Assumes nothing.
 use mathlib.Core.Path.{_≡_, sym, ap, _∙_}
 use mathlib.Core.List.{List, _++_, append-assoc}
-use Prim.Native.Nat.{ℕ, suc, _+_, _-_, _≤_}
-use native.Mathlib.Numerals.{add-one}
-use native.Mathlib.Omega.{arith}
-use lib.ListN.{length, take, length-take}
+use Prim.Native.Nat.{ℕ, _+_, _-_}
+use lib.ListN.{length, take}
 use Rattle.links.specs.declared.Timing.{Timing}
 use Rattle.refusals.specs.declared.Refusal.{Refusal}
 use Rattle.refusals.specs.declared.Verdict.{Verdict}
@@ -14,12 +12,11 @@ use Rattle.refusals.proofs.Answering.{verdict, first-part-answers, second-part-
 use Rattle.settings_model.specs.declared.Settings.{Settings}
 use Rattle.settings_model.specs.Checks.{checks}
 use Rattle.plan_model.specs.Times.{timingAnswered}
-use Rattle.plan_model.proofs.TimesMade.{timing-fits}
 use Rattle.tree_model.specs.Checks.{routersFit, routersFrom, conditions}
 use Rattle.tree_read_model.specs.Survey.{treeFrom, treeIn, surveyed}
 use Rattle.tree_plan_model.specs.Tables.{Loaded, routersInFrom}
-use Rattle.tree_plan_model.specs.Stages.{conditionsBeforeSlots, conditionsIn, parentsIn, LoadsHeld}
-use Rattle.tree_plan_model.proofs.Tabled.{Tabled, tabled}
+use Rattle.tree_plan_model.specs.Stages.{conditionsBeforeSlots, conditionsIn, LoadsHeld}
+use Rattle.tree_plan_model.proofs.Tabled.{parents-held, tables-held}
 
 module _ (input : List ℕ) (b : Settings) (sink : ℕ) where
   -- 5 and 7 of every router come last
@@ -40,25 +37,11 @@ module _ (input : List ℕ) (b : Settings) (sink : ℕ) where
 
   -- where those before are kept
   module _ (n : ℕ) (ks ns : List ℕ) (H : LoadsHeld input b sink n ks ns) where
-    pub few-held : n + 1 ≤ 255
-    unfolding treeIn treeFrom
-    few-held = omega (arith, H .nodes, H .listing .planted .few)
-
-    pub room-held : n + 1 ≤ length ks
-    unfolding treeIn treeFrom
-    room-held = omega (arith, H .nodes, length-take (suc n) ks, ap length (H .parents))
-
-    parents-held : take (n + 1) ks ≡ parentsIn input
-    parents-held = rw (add-one n) (H .parents)
-
     module _ (a : Timing) (e : a ≡ timingAnswered b) where
-      tables : Tabled input b a sink ns
-      tables = tabled input b sink n ks ns a (e ∙ timing-fits b (H .checked)) H
-
       pub loaded-held : Loaded a (take (n + 1) ks) ns
-      loaded-held = rw parents-held (tables .loads)
+      loaded-held = rw (parents-held input b sink n ks ns H) (tables-held input b sink n ks ns H a e .loads)
 
       pub slots-next : (v : Verdict) → verdict (conditionsBeforeSlots input b sink) ≡ Kept
           → v ≡ verdict (routersInFrom a (b .so) (take (n + 1) ks) ns sink (length (take (n + 1) ks) - 1) 1) → v ≡ verdict (conditionsIn input b sink)
       unfolding treeIn treeFrom
-      slots-next v k q = (rw parents-held at q) ∙ ap verdict (tables .routers (treeIn input .nodes) 1) ∙ before-kept k
+      slots-next v k q = (rw (parents-held input b sink n ks ns H) at q) ∙ ap verdict (tables-held input b sink n ks ns H a e .routers (treeIn input .nodes) 1) ∙ before-kept k

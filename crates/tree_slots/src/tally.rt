@@ -8,7 +8,7 @@ use links::Timing;
 use links::reservation_for;
 use measure::Slots;
 use tree_notes::load_at;
-use tree_notes::towards_at;
+use tree_notes::superframe_at;
 
 // Counts the reservations of each router, and adds up their slots, into tables of zeros.
 pub(crate) fn tally(
@@ -62,8 +62,5 @@ fn superframe_of(parents: &[u8], notes: &[u64; 768], v: usize) -> usize
     requires { ⌜ v < 256 ⌝ }
     ensures { λ r. ⌜ r ≡ superframeIn (now (parents .entry)) (now (notes .entry)) v ⌝ }
 {
-    if v < towards_at(notes, v) {
-        return v;
-    }
-    parents[v] as usize
+    superframe_at(notes, parents[v], v)
 }

@@ -2,8 +2,6 @@
 use mathlib.Core.Path.{_≡_, refl, sym, _∙_}
 use mathlib.Core.List.{List, _++_}
 use Prim.Native.Nat.{ℕ, _+_, _≤_}
-use native.Mathlib.Omega.{arith}
-use native.Mathlib.Numerals.{add-one}
 use lib.ListN.{length, take}
 use Rattle.refusals.specs.declared.Refusal.{Refusal}
 use Rattle.refusals.specs.declared.Verdict.{Verdict}
@@ -18,12 +16,12 @@ use Rattle.plan_model.proofs.TimesMade.{timing-fits}
 use Rattle.row_model.specs.Times.{timingOf}
 use Rattle.tree_model.specs.Tree.{Planted, WithoutGaps}
 use Rattle.tree_model.specs.Checks.{routersFit, routersFrom, conditions}
-use Rattle.tree_read_model.specs.Survey.{treeFrom, treeIn, surveyed}
+use Rattle.tree_read_model.specs.Survey.{treeIn, surveyed}
 use Rattle.tree_plan_model.specs.Inner.{shape}
 use Rattle.tree_plan_model.specs.Tables.{Loaded, Led}
 use Rattle.tree_plan_model.specs.Filled.{DepthsSet, WaysSet}
-use Rattle.tree_plan_model.specs.Stages.{conditionsBeforeSlots, conditionsIn, parentsIn, LoadsHeld, WaysLeft}
-use Rattle.tree_plan_model.proofs.Tabled.{tabled}
+use Rattle.tree_plan_model.specs.Stages.{conditionsBeforeSlots, conditionsIn, LoadsHeld, WaysLeft}
+use Rattle.tree_plan_model.proofs.Tabled.{tabled, parents-held}
 
 module _ (input : List ℕ) (b : Settings) (sink : ℕ) where
   -- where all conditions are kept, those before numbers 5 and 7 are
@@ -38,31 +36,24 @@ module _ (input : List ℕ) (b : Settings) (sink : ℕ) where
 
   -- what holds of the tables then
   module _ (n : ℕ) (ks ns : List ℕ) (H : LoadsHeld input b sink n ks ns) where
-    pub few-nodes : n ≤ 254
-    unfolding treeIn treeFrom
-    few-nodes = omega (arith, H .nodes, H .listing .planted .few)
-
-    parents-taken : take (n + 1) ks ≡ parentsIn input
-    parents-taken = rw (add-one n) (H .parents)
-
     module _ (a : Timing) (e : a ≡ timingAnswered b) where
       timed : a ≡ timingOf b
       timed = e ∙ timing-fits b (H .checked)
 
       pub ways-asked : Loaded a (take (n + 1) ks) ns × Led (take (n + 1) ks) ns sink
-      ways-asked = let t = tabled input b sink n ks ns a timed H in rw parents-taken (t .loads, t .leads)
+      ways-asked = let t = tabled input b sink n ks ns a timed H in rw (parents-held input b sink n ks ns H) (t .loads, t .leads)
 
       pub ways-left : (v : Verdict) (hs hs' ws ws' : List ℕ) → v ≡ Kept → DepthsSet (take (n + 1) ks) hs' → WaysSet a (take (n + 1) ks) ns sink ws' → WaysLeft input b sink v ns hs hs' ws ws'
       ways-left v hs hs' ws ws' k d w = record {
-        depths = λ _. rw parents-taken at d;
-        ways = λ _. rw (parents-taken, timed) at w;
+        depths = λ _. rw (parents-held input b sink n ks ns H) at d;
+        ways = λ _. rw (parents-held input b sink n ks ns H, timed) at w;
         refused = λ x q. broken-kept x (sym q ∙ k);
       }
 
     pub depths-asked : (1 ≤ length (take (n + 1) ks)) × Planted (shape (take (n + 1) ks)) × WithoutGaps (shape (take (n + 1) ks))
     depths-asked =
         let l = tabled input b sink n ks ns (timingOf b) refl H .leads in
-        rw parents-taken (l .some, l .planted, l .withoutGaps)
+        rw (parents-held input b sink n ks ns H) (l .some, l .planted, l .withoutGaps)
 
   pub ways-refused : (v : Verdict) (x : Refusal) (ns hs ws : List ℕ) → v ≡ Broken x → WaysLeft input b sink v ns hs hs ws ws
   ways-refused v x ns hs ws e = record {

@@ -14,8 +14,11 @@ use Rattle.tree_calls.proofs.check_tree.Tie as tie
 beside-requires : tie.Need-beside-requires
 beside-requires c κs = search needs
 
-plan-length-requires : tie.Need-plan-length-requires
-plan-length-requires c κs = search needs
+slice-aggregate-plan-within : tie.Need-slice-aggregate-plan-within
+slice-aggregate-plan-within c = search needs
+
+plan-within-requires : tie.Need-plan-within-requires
+plan-within-requires c κs = search needs
 
 answer-of-requires : tie.Need-answer-of-requires
 answer-of-requires c κs = search needs
@@ -23,17 +26,18 @@ answer-of-requires c κs = search needs
 returns : tie.Need-returns
 unfolding checkTree
 returns c =
-    let a = c .before .before .before .before .args in
-    let w = c .before .plan-length in
-    let e = w .ensures .0 ∙ ap (λ (s : Settings). answer treeText (outcomeIn (a .nodes .now) s (a .sink))) (c .before .before .beside .ensures) in
+    let a = c .before .before .before .before .before .before .args in
+    let w = c .before .before .plan-within in
+    let e = w .ensures .0 ∙ ap (λ (s : Settings). answer treeText (outcomeIn (a .nodes .now) s (a .sink))) (c .before .before .before .before .beside .ensures) in
     let b = beside (a .bo) (a .so) (a .head) (a .payload) (a .ack) (a .loss) in
-    (plan-told treeText (outcomeIn (a .nodes .now) b (a .sink)) (w .result) e _ (c .answer-of .ensures), told-short treeText (outcomeIn (a .nodes .now) b (a .sink)) (w .result) e 48576 _ (c .answer-of .ensures) (w .ensures .1))
+    (plan-told treeText (outcomeIn (a .nodes .now) b (a .sink)) (w .result) e _ (c .answer-of .ensures), told-short treeText (outcomeIn (a .nodes .now) b (a .sink)) (w .result) e 48576 _ (c .answer-of .ensures) (w .ensures .1 .0))
 
 pub check-tree-spec : {M : Type 1} → statement M
 check-tree-spec =
     tie.close
     (tie.spec
     beside-requires
-    plan-length-requires
+    slice-aggregate-plan-within
+    plan-within-requires
     answer-of-requires
     returns)

@@ -4,7 +4,6 @@ use native.Mathlib.Omega.{arith}
 use lib.ListN.{replicate}
 use lib.Seq.{length-take-le}
 use Rattle.buffer.proofs.Putting.{put-front}
-use Rattle.refusals.specs.declared.Verdict.{Verdict}
 use Rattle.settings_model.specs.declared.Settings.{Settings}
 use Rattle.plan_model.specs.declared.Plan.{Plan}
 use Rattle.plan_model.specs.Plans.{answer}

@@ -1,12 +1,9 @@
 -- `tree_loads::loads_of` meets its contract. Assumes nothing.
-use mathlib.Core.Path.{_≡_, refl, sym, _∙_}
-use Prim.Native.Nat.{_+_, _≤_}
+use mathlib.Core.Path.{refl, sym, _∙_}
 use native.Mathlib.Omega.{arith}
-use lib.ListN.{length, take}
 use Rattle.plan_model.proofs.TimesMade.{timing-fits}
 use Rattle.refusals.proofs.Answering.{broken-kept}
 use Rattle.tree_plan_model.proofs.Answers.{before-checked}
-use Rattle.tree_plan_model.specs.Children.{Linked}
 use Rattle.tree_loads.proofs.Holding.{list-first, list-then, few, taken-length, taken-room, shape-conditions, walk-given, walk-linked, sink-some, sink-listed, held}
 use borrow.Author.Needs.{needs}
 use Rattle.tree_loads.proofs.loads_of.Statement.{statement}

@@ -4,7 +4,8 @@ use native.Mathlib.Omega.{arith}
 use lib.Seq.{length-take-le}
 use borrow.Author.Needs.{needs}
 use Rattle.tree_plan_model.specs.Stages.{LoadsHeld}
-use Rattle.tree_slots.proofs.Stages.{before-broken, few-held, room-held, loaded-held, slots-next}
+use Rattle.tree_plan_model.proofs.Tabled.{few-held, room-held}
+use Rattle.tree_slots.proofs.Stages.{before-broken, loaded-held, slots-next}
 use Rattle.tree_slots.proofs.check.Statement.{statement}
 use Rattle.tree_slots.proofs.check.Tie as tie
 

@@ -5,7 +5,8 @@ use native.Mathlib.Omega.{arith}
 use lib.ListN.{length}
 use lib.Seq.{length-take-le}
 use Rattle.tree_plan_model.specs.Stages.{LoadsHeld}
-use Rattle.tree_ways.proofs.Staging.{kept-before-slots, few-nodes, depths-asked, ways-asked, ways-left, ways-refused}
+use Rattle.tree_plan_model.proofs.Tabled.{few-held}
+use Rattle.tree_ways.proofs.Staging.{kept-before-slots, depths-asked, ways-asked, ways-left, ways-refused}
 use borrow.Author.Needs.{needs}
 use Rattle.tree_ways.proofs.ways_of.Statement.{statement}
 use Rattle.tree_ways.proofs.ways_of.Tie as tie
@@ -26,7 +27,7 @@ within c =
     let x = c .before .before .before .before .before .args in
     let k = c .before .before .check in
     let size : length (k .result .kin) ≡ 768 = search needs in
-    let few : k .result .nodes ≤ 254 = few-nodes (x .input .now) (x .b) (x .sink) (k .result .nodes) (k .result .kin) (k .last .1 .1 .1 .0) (held c) in
+    let few : k .result .nodes ≤ 254 = few-held (x .input .now) (x .b) (x .sink) (k .result .nodes) (k .result .kin) (k .last .1 .1 .1 .0) (held c) in
     (omega (arith, few), omega (arith, few, size))
 
 check-requires : tie.Need-check-requires

@@ -1,5 +1,5 @@
 -- `tree_decide::lines::kind_of` meets its contract. Assumes nothing.
-use mathlib.Core.Path.{_≡_, sym, _∙_}
+use mathlib.Core.Path.{sym, _∙_}
 use Prim.Native.Nat.{_≤_, _<_}
 use native.Mathlib.Omega.{arith}
 use Rattle.tree_plan_model.specs.Inner.{towardsIn}

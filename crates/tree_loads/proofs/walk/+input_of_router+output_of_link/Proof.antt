@@ -17,7 +17,6 @@ use Rattle.tree_model.proofs.Steps as steps
 use Rattle.tree_plan_model.proofs.Shaped.{planted-shape}
 use Rattle.tree_plan_model.specs.Children.{Beside}
 use Rattle.tree_plan_model.specs.Inner.{treeUpTo}
-use Rattle.tree_loads.proofs.Prefix.{prefix-at}
 use Rattle.tree_loads.proofs.Turns.{soFar, sensed-own, part-fits, output-made}
 use Rattle.tree_loads.proofs.Notes.{noted-end}
 use Rattle.tree_loads.proofs.Neighbours.{before, left, Upto, upto-none, to-next, fed, not-fed, nearest-known, left-falls, feeding, not-feeding}

@@ -1,7 +1,5 @@
 -- `tree_loads::walk::walk` meets its contract. Assumes nothing.
 use native.Mathlib.Omega.{arith}
-use Prim.Native.Nat.{_+_, _≤_}
-use lib.ListN.{length, take}
 use Rattle.tree_model.proofs.WayLaws.{facing-sink}
 use Rattle.tree_plan_model.specs.Inner.{treeUpTo}
 use Rattle.tree_loads.proofs.Notes.{all-noted}

@@ -1,5 +1,5 @@
 // Where each node's frames go next, three numbers a node: its parent, its neighbour towards the sink, and the router in whose superframe its
-// link lies. What is required here `decide` meets.
+// link lies. What is required here `hops_of` meets.
 ghost use mathlib.Core.Path.{_≡_};
 ghost use mathlib.Core.Bool.{cond};
 ghost use Prim.Native.Nat.{_≤_, _<_, _-_, _*_};

@@ -1,14 +1,13 @@
--- `tree_decide::hops::put_hops` meets its contract. Assumes nothing.
+-- `tree_hops::hops::put_hops` meets its contract. Assumes nothing.
 use mathlib.Core.Path.{_≡_, refl, _∙_}
-use Prim.Native.Nat.{_+_, _-_, _≤_}
+use Prim.Native.Nat.{_-_, _≤_}
 use native.Mathlib.Omega.{arith}
 use lib.ListN.{length}
 use lib.Seq.{sets}
 use Rattle.tree_plan_model.specs.Hops.{hopsBy}
-use Rattle.tree_decide.proofs.Rowing.{hops-none, hops-put}
-use borrow.Author.Needs.{needs}
-use Rattle.tree_decide.proofs.hops.put_hops.Statement.{statement}
-use Rattle.tree_decide.proofs.hops.put_hops.Tie as tie
+use Rattle.tree_hops.proofs.Hopping.{hops-none, hops-put}
+use Rattle.tree_hops.proofs.hops.put_hops.Statement.{statement}
+use Rattle.tree_hops.proofs.hops.put_hops.Tie as tie
 
 abbrev Inv-loop : tie.InvT-loop
 Inv-loop parents notes sink hops₀ v₀ hops v = (v ≤ length parents - 1) × (length hops ≡ length hops₀) × (hops ≡ sets hops₀ 0 (hopsBy parents notes sink v))

@@ -1,14 +1,12 @@
--- `tree_decide::hops::put_hop` meets its contract. Assumes nothing.
-use mathlib.Core.Path.{_≡_, sym, _∙_}
-use Prim.Native.Nat.{_+_, _*_, _-_, _<_}
+-- `tree_hops::hops::put_hop` meets its contract. Assumes nothing.
+use mathlib.Core.Path.{_∙_}
+use Prim.Native.Nat.{_*_, _-_}
 use native.Mathlib.Omega.{arith}
-use Rattle.tree_plan_model.specs.Inner.{towardsIn}
-use Rattle.tree_plan_model.specs.Hops.{hopBy}
 use Rattle.tree_plan_model.proofs.Noting.{towards-noted}
-use Rattle.tree_decide.proofs.Rowing.{towards-low, superframe-low, hop-put}
+use Rattle.tree_hops.proofs.Hopping.{towards-low, superframe-low, hop-put}
 use borrow.Author.Needs.{needs}
-use Rattle.tree_decide.proofs.hops.put_hop.Statement.{statement}
-use Rattle.tree_decide.proofs.hops.put_hop.Tie as tie
+use Rattle.tree_hops.proofs.hops.put_hop.Statement.{statement}
+use Rattle.tree_hops.proofs.hops.put_hop.Tie as tie
 
 sub-at : tie.Need-sub-at
 sub-at c = c .before .before .pre .1 .1 .0
