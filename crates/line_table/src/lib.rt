@@ -6,8 +6,8 @@
 // their `requires` say what.
 ghost use mathlib.Core.Path.{_≡_};
 ghost use mathlib.Core.List.{[], _∷_};
-ghost use Prim.Native.Nat.{_+_, _≤_, _<_, _^_, min};
-ghost use lib.ListN.{getD, length};
+ghost use Prim.Native.Nat.{_+_, _<_, _^_, min};
+ghost use lib.ListN.{getD};
 ghost use lib.Seq.{sets};
 ghost use Rattle.line_table_model.specs.Rows.{codeOf, kindFrom, numbersOf, lineIn};
 use links::Figures;
@@ -24,23 +24,14 @@ pub fn put_line(table: &mut [u64], at: usize, line: Line)
     ensures { λ _. ⌜ now (table .exit) ≡ sets (now (table .entry)) at (numbersOf line) ⌝ }
 {
     // A position behind the end counts as the end, where there is no room either: so no position behind it wraps.
-    let start = lower(at, table.len());
-    if 9 <= table.len() - start {
-        put_whole(table, start, line);
-    } else {
-        put_numbers(table, start, line);
-    }
+    put_numbers(table, lower(at, table.len()), line);
 }
 
 // The line whose nine numbers stand at a position.
 pub fn line_at(table: &[u64], at: usize) -> Line
     ensures { λ r. ⌜ r ≡ lineIn (now (table .entry)) at ⌝ }
 {
-    let start = lower(at, table.len());
-    if 9 <= table.len() - start {
-        return line_whole(table, start);
-    }
-    line_inside(table, start)
+    line_inside(table, lower(at, table.len()))
 }
 
 // Puts a number at a position, where there is room.
@@ -60,45 +51,6 @@ pub fn number_at(table: &[u64], at: usize) -> u64
         return table[at];
     }
     0
-}
-
-// Puts the numbers of a line where there is room for all: no number is asked for its place again.
-fn put_whole(table: &mut [u64], at: usize, line: Line)
-    requires { ⌜ at + 9 ≤ length (now table) ⌝ }
-    ensures { λ _. ⌜ now (table .exit) ≡ sets (now (table .entry)) at (numbersOf line) ⌝ }
-{
-    let kind = line.kind;
-    table[at] = code_of(kind);
-    table[at + 1] = line.depth;
-    table[at + 2] = line.figures.rate.0;
-    table[at + 3] = line.figures.burst.0;
-    table[at + 4] = line.figures.slots.0;
-    table[at + 5] = line.figures.frames.0;
-    table[at + 6] = line.figures.latency.0;
-    table[at + 7] = line.figures.buffer.0;
-    table[at + 8] = line.figures.delay.0;
-}
-
-// The line at a position where all its numbers stand.
-fn line_whole(table: &[u64], at: usize) -> Line
-    requires { ⌜ at + 9 ≤ length (now table) ⌝ }
-    ensures { λ r. ⌜ r ≡ lineIn (now (table .entry)) at ⌝ }
-{
-    let kind = kind_from(table[at]);
-    let figures = Figures {
-        rate: Rate(table[at + 2]),
-        burst: FrameSymbols(table[at + 3]),
-        slots: Slots(table[at + 4]),
-        frames: Frames(table[at + 5]),
-        latency: Symbols(table[at + 6]),
-        buffer: Frames(table[at + 7]),
-        delay: Symbols(table[at + 8]),
-    };
-    Line {
-        kind,
-        depth: table[at + 1],
-        figures,
-    }
 }
 
 // Puts the numbers of a line at a position behind which none wraps.

@@ -1,8 +1,8 @@
 // The printed plan (document 01, 'The printed plan'; document 02, E3): the text of a plan's lines, and of a refusal.
 //
 // No public function has a `requires`. Each puts its text into lent memory as far as there is room, leaves all other bytes as they
-// were, and answers the text's whole length, as equations with definitions of report_model say; two answer a line's length alone. A plan is
-// put piece by piece: its header line at the front, and each line behind the text before it.
+// were, and answers the text's whole length, as equations with definitions of report_model say. A plan is put piece by piece: its header
+// line at the front, and each line behind the text before it.
 ghost use mathlib.Core.Path.{_≡_};
 ghost use mathlib.Core.List.{[], _∷_, _++_};
 ghost use Prim.Native.Nat.{_≤_, min};
@@ -13,7 +13,6 @@ ghost use Rattle.report_model.specs.TreeText.{treeHeader, nodeText};
 use crate::line::put_ended;
 use crate::line::put_node_ended;
 use crate::line::put_spaced;
-use crate::line::spaced_length;
 use buffer::put_byte;
 use buffer::put_bytes;
 use refusals::Refusal;
@@ -71,31 +70,6 @@ pub fn put_node_line(out: &mut [u8], at: usize, node: NodeLine) -> usize
 {
     let start = lower(at, out.len());
     put_node_ended(out, start, node) - start
-}
-
-// How long a node's line and its LF are: nothing is put.
-pub fn node_line_length(node: NodeLine) -> usize
-    ensures { λ r. ⌜ r ≡ length (nodeText node ++ 10 ∷ []) ⌝ }
-    ensures { λ r. ⌜ r ≤ 191 ⌝ }
-{
-    line_length(node.line) + spaced_length(node.route.0) + 1
-}
-
-// How long a line without its LF is, a letter and eight numbers: nothing is put.
-pub fn line_length(line: Line) -> usize
-    ensures { λ r. ⌜ r ≡ length (lineText line) ⌝ }
-    ensures { λ r. ⌜ r ≤ 169 ⌝ }
-{
-    let f = line.figures;
-    1
-        + spaced_length(line.depth)
-        + spaced_length(f.rate.0)
-        + spaced_length(f.burst.0)
-        + spaced_length(f.slots.0)
-        + spaced_length(f.frames.0)
-        + spaced_length(f.latency.0)
-        + spaced_length(f.buffer.0)
-        + spaced_length(f.delay.0)
 }
 
 // The lower of two positions.

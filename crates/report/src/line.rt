@@ -9,7 +9,6 @@ ghost use Rattle.row_model.specs.Lines.{letter};
 ghost use Rattle.report_model.specs.Text.{lineText};
 ghost use Rattle.report_model.specs.TreeText.{nodeText};
 use buffer::put_byte;
-use decimal::digits_of;
 use decimal::put_number;
 use row_model::Kind;
 use row_model::Line;
@@ -69,14 +68,6 @@ pub(crate) fn put_spaced(out: &mut [u8], at: usize, n: u64) -> usize
 {
     put_byte(out, at, 0, 32);
     at + 1 + put_number(out, at + 1, n)
-}
-
-// How long a space and a number in decimal are: nothing is put.
-pub(crate) fn spaced_length(n: u64) -> usize
-    ensures { λ r. ⌜ r ≡ length (32 ∷ decimal n) ⌝ }
-    ensures { λ r. ⌜ r ≤ 21 ⌝ }
-{
-    1 + digits_of(n)
 }
 
 // KIND's letter.

@@ -9,9 +9,9 @@ ghost use Rattle.report_model.specs.TreeText.{treeText};
 ghost use Rattle.node_table_model.specs.NodeRows.{nodesIn};
 use line_table::lower;
 use node_table::node_at;
-use report::node_line_length;
 use report::put_node_line;
 use report::put_tree_header;
+use report_length::node_line_length;
 
 // No tree has more nodes.
 const MOST_NODES: usize = 254;

@@ -8,22 +8,16 @@ use Rattle.line_table.proofs.line_at.Tie as tie
 lower-requires : tie.Need-lower-requires
 lower-requires c κs = search needs
 
-sub-if1 : tie.Need-sub-if1
-sub-if1 c = search needs
-
-line-whole-requires : tie.Need-line-whole-requires
-line-whole-requires c κs = search needs
-
-returns : tie.Need-returns
-returns c = c .line-whole .ensures ∙ line-lower (c .before .before .before .before .args .table .now) (c .before .before .before .before .args .at) (c .before .before .lower .result) (c .before .before .lower .ensures)
-
 line-inside-requires : tie.Need-line-inside-requires
 line-inside-requires c κs = search needs
 
-returns-2 : tie.Need-returns-2
-returns-2 c = c .line-inside .ensures ∙ line-lower (c .before .before .before .before .args .table .now) (c .before .before .before .before .args .at) (c .before .before .lower .result) (c .before .before .lower .ensures)
+returns : tie.Need-returns
+returns c = c .line-inside .ensures ∙ line-lower (c .before .before .before .args .table .now) (c .before .before .before .args .at) (c .before .lower .result) (c .before .lower .ensures)
 
 pub line-at-spec : {M : Type 1} → statement M
 line-at-spec =
     tie.close
-    (tie.spec lower-requires sub-if1 line-whole-requires returns line-inside-requires returns-2)
+    (tie.spec
+    lower-requires
+    line-inside-requires
+    returns)

@@ -9,12 +9,6 @@ use Rattle.line_table.proofs.put_line.Tie as tie
 lower-requires : tie.Need-lower-requires
 lower-requires c κs = search needs
 
-sub-if1 : tie.Need-sub-if1
-sub-if1 c = search needs
-
-put-whole-requires : tie.Need-put-whole-requires
-put-whole-requires c κs = search needs
-
 put-numbers-requires : tie.Need-put-numbers-requires
 put-numbers-requires c κs = search needs
 
@@ -22,23 +16,13 @@ same-length : tie.Need-same-length
 same-length c = search needs
 
 returns : tie.Need-returns
-returns c = c .before .before .put-whole .ensures ∙ sets-lower (c .before .before .before .before .before .before .before .args .table .now) (c .before .before .before .before .before .before .before .args .at) (c .before .before .before .before .before .lower .result) (numbersOf (c .before .before .before .before .before .before .before .args .line)) (c .before .before .before .before .before .lower .ensures)
-
-same-length-2 : tie.Need-same-length-2
-same-length-2 c = search needs
-
-returns-2 : tie.Need-returns-2
-returns-2 c = c .before .before .put-numbers .ensures ∙ sets-lower (c .before .before .before .before .before .before .before .args .table .now) (c .before .before .before .before .before .before .before .args .at) (c .before .before .before .before .before .lower .result) (numbersOf (c .before .before .before .before .before .before .before .args .line)) (c .before .before .before .before .before .lower .ensures)
+returns c = c .before .before .put-numbers .ensures ∙ sets-lower (c .before .before .before .before .before .before .args .table .now) (c .before .before .before .before .before .before .args .at) (c .before .before .before .lower .result) (numbersOf (c .before .before .before .before .before .before .args .line)) (c .before .before .before .lower .ensures)
 
 pub put-line-spec : {M : Type 1} → statement M
 put-line-spec =
     tie.close
     (tie.spec
     lower-requires
-    sub-if1
-    put-whole-requires
     put-numbers-requires
     same-length
-    returns
-    same-length-2
-    returns-2)
+    returns)

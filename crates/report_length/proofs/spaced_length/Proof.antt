@@ -1,9 +1,9 @@
--- `report::line::spaced_length` meets its contract. Assumes nothing.
+-- `report_length::spaced_length` meets its contract. Assumes nothing.
 use native.Mathlib.Omega.{arith}
 use borrow.Author.Needs.{needs}
 use Rattle.decimal_model.proofs.Writing.{at-most-twenty}
-use Rattle.report.proofs.line.spaced_length.Statement.{statement}
-use Rattle.report.proofs.line.spaced_length.Tie as tie
+use Rattle.report_length.proofs.spaced_length.Statement.{statement}
+use Rattle.report_length.proofs.spaced_length.Tie as tie
 
 digits-of-requires : tie.Need-digits-of-requires
 digits-of-requires c κs = search needs

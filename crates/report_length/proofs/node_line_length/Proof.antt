@@ -1,4 +1,4 @@
--- `report::node_line_length` meets its contract. Assumes nothing.
+-- `report_length::node_line_length` meets its contract. Assumes nothing.
 use mathlib.Core.Path.{ap}
 use mathlib.Core.List.{[], _∷_}
 use native.Mathlib.Omega.{arith}
@@ -6,8 +6,8 @@ use lib.ListN.{length, length-append}
 use borrow.Author.Needs.{needs}
 use Rattle.report_model.specs.TreeText.{nodeText}
 use Rattle.report_model.proofs.LineText.{node-columns}
-use Rattle.report.proofs.node_line_length.Statement.{statement}
-use Rattle.report.proofs.node_line_length.Tie as tie
+use Rattle.report_length.proofs.node_line_length.Statement.{statement}
+use Rattle.report_length.proofs.node_line_length.Tie as tie
 
 line-length-requires : tie.Need-line-length-requires
 line-length-requires c κs = search needs

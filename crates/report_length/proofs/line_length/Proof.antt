@@ -1,11 +1,11 @@
--- `report::line_length` meets its contract. Assumes nothing.
+-- `report_length::line_length` meets its contract. Assumes nothing.
 use mathlib.Core.Path.{ap}
 use native.Mathlib.Omega.{arith}
 use lib.ListN.{length, length-append}
 use borrow.Author.Needs.{needs}
 use Rattle.report_model.proofs.LineText.{line-columns}
-use Rattle.report.proofs.line_length.Statement.{statement}
-use Rattle.report.proofs.line_length.Tie as tie
+use Rattle.report_length.proofs.line_length.Statement.{statement}
+use Rattle.report_length.proofs.line_length.Tie as tie
 
 spaced-length-requires : tie.Need-spaced-length-requires
 spaced-length-requires c κs = search needs
