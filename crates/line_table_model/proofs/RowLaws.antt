@@ -9,6 +9,11 @@ use Rattle.network.specs.Counting.{join}
 use Rattle.buffer.proofs.Putting.{sets-sets}
 use Rattle.line_table_model.specs.Rows.{rowsOf, rowsIn}
 
+-- two lines of two numbers each, told by their first
+pub two-lines : rowsIn 2 (λ ns at. getD ns at 0) (1 ∷ 2 ∷ 3 ∷ 4 ∷ []) 2 ≡ 1 ∷ 3 ∷ []
+unfolding rowsIn join
+two-lines = refl
+
 -- A sort of line: its numbers, how it is read at a position, that it has so many, that it is read back at the front, and that numbers
 -- before it are passed over
 module _ {A : Type 0} (width : ℕ) (numbers : A → List ℕ) (read : List ℕ → ℕ → A)
