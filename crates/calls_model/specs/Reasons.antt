@@ -8,16 +8,13 @@ use lib.ListN.{length, take, drop}
 use Rattle.refusals.specs.declared.Refusal.{Refusal}
 use Rattle.refusals.specs.declared.Refusal.the-variants.{Names, LentTooShort, InputTooLong}
 use Rattle.refusals.specs.Refusals.{numberOf, placeOf}
-use Rattle.plan_model.specs.Plans.{answer}
-use Rattle.report_model.specs.Text.{text}
-use Rattle.row_answer_model.specs.Outcomes.{namedOutcome}
 use Rattle.reason_model.specs.declared.Reading.{Reading}
 use Rattle.reason_model.specs.declared.Reading.the-variants.{Reason, NoReason}
-use Rattle.reason_model.specs.Reasons.{reason, spoken}
+use Rattle.reason_model.specs.Reasons.{reason}
 use Rattle.reason_model.specs.Reading.{readReason}
 use Rattle.calls_model.specs.declared.Answer.{Answer}
 use Rattle.calls_model.specs.declared.Numbered.{Numbered}
-use Rattle.calls_model.specs.Calls.{toldRefusal, told, Left, left}
+use Rattle.calls_model.specs.Calls.{toldRefusal, Left, left}
 
 -- what a call leaves that puts a line, and answers this number and place: the line at the front of the buffer and its length, or number 8
 -- and every byte as it was, where the buffer is shorter than the line
@@ -26,14 +23,6 @@ lineLeft number place line before =
     cond (ltb (length before) (length line))
     (left (toldRefusal LentTooShort) before)
     (left (record { number = number; place = place; length = length line }) (line ++ drop (length line) before))
-
--- the line of a row under a name line: why it is refused with one of numbers 1 to 7, or that it is planned
-unfoldable pub rowLine : List ℕ → List ℕ → List ℕ
-rowLine names row = spoken (answer text (namedOutcome names row) .verdict)
-
--- the entry that puts the line of a row: it answers number and place of the refusal, 0 and 0 where the row is planned
-unfoldable pub explainRow : List ℕ → List ℕ → List ℕ → Left
-explainRow names row before = lineLeft (told text (namedOutcome names row) .number) (told text (namedOutcome names row) .place) (rowLine names row) before
 
 -- refusals that their number and place alone determine
 unfoldable pub plain : List Refusal

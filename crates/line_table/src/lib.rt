@@ -16,8 +16,8 @@ use measure::Frames;
 use measure::Rate;
 use measure::Slots;
 use measure::Symbols;
-use row_model::Kind;
-use row_model::Line;
+use plan_model::Kind;
+use plan_model::Line;
 
 // Puts the nine numbers of a line at a position.
 pub fn put_line(table: &mut [u64], at: usize, line: Line)

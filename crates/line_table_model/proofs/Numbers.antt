@@ -7,10 +7,10 @@ use native.Mathlib.Omega.{arith}
 use lib.ListN.{length, getD, List·getD-eq-default}
 use lib.Seq.{sets, set-out, getD-append-add}
 use Rattle.measure.specs.Measures.{symbols, slots, frames, frameSymbols, perInterval}
-use Rattle.row_model.specs.declared.Kind.{Kind}
-use Rattle.row_model.specs.declared.Kind.the-variants.{EndNode, Upward, Downward, Sink}
-use Rattle.row_model.specs.declared.Line.{Line}
-use Rattle.row_model.specs.Lines.{line}
+use Rattle.plan_model.specs.declared.Kind.{Kind}
+use Rattle.plan_model.specs.declared.Kind.the-variants.{EndNode, Upward, Downward, Sink}
+use Rattle.plan_model.specs.declared.Line.{Line}
+use Rattle.plan_model.specs.Lines.{line}
 use Rattle.line_table_model.specs.Rows.{codeOf, kindFrom, numbersOf, lineIn}
 
 -- ---- as the functions put and read them

@@ -6,10 +6,10 @@ use lib.Dec.{eqb}
 use lib.ListN.{getD}
 use Rattle.measure.specs.Measures.{symbols, slots, frames, frameSymbols, perInterval}
 use Rattle.network.specs.Counting.{join}
-use Rattle.row_model.specs.declared.Kind.{Kind}
-use Rattle.row_model.specs.declared.Kind.the-variants.{EndNode, Upward, Downward, Sink}
-use Rattle.row_model.specs.declared.Line.{Line}
-use Rattle.row_model.specs.Lines.{line}
+use Rattle.plan_model.specs.declared.Kind.{Kind}
+use Rattle.plan_model.specs.declared.Kind.the-variants.{EndNode, Upward, Downward, Sink}
+use Rattle.plan_model.specs.declared.Line.{Line}
+use Rattle.plan_model.specs.Lines.{line}
 
 -- KIND as a number, and any number as KIND
 unfoldable pub codeOf : Kind → ℕ

@@ -37,3 +37,5 @@ pub mod ExamplesHold
 pub mod Witnesses
 -- one symbol of a run
 pub mod Moments
+-- symbols in a stretch of symbols
+pub mod Stretches

@@ -2,13 +2,13 @@
 use mathlib.Core.Path.{_≡_}
 use mathlib.Core.Bool.{Bool, cond, _&&_}
 use mathlib.Core.List.{List, [], _++_}
-use Prim.Native.Nat.{ℕ, suc, _+_, _*_, _≤_, _<_}
+use Prim.Native.Nat.{ℕ, _+_, _*_, _≤_, _<_}
 use lib.Dec.{eqb, ltb, leb}
 use lib.ListN.{length}
 use Rattle.network.specs.Counting.{total, count, All}
 use Rattle.network.specs.Model.{Network, Frame, State, queue}
 use Rattle.network.specs.Readings.{Reading, made}
-use Rattle.network.specs.Run.{endExchanges, makeReadings, Symbol, Run}
+use Rattle.network.specs.Run.{endExchanges, makeReadings, Symbol, Run, atEndOf}
 use Rattle.network.specs.Loads.{Figures, burstAfter, Linked, Provisioned, Buckets}
 
 -- did the frame come in one of the t symbols from x on?
@@ -45,7 +45,7 @@ abbrev pub EveryRunIsKept : Type 0
 EveryRunIsKept = (N : Network) (F : Figures) → Provisioned N F
     → (l : List Reading) → Buckets N F l
     → (s : ℕ → State) → Run N l s
-    → (u : ℕ) → Kept N F l u (s (suc u))
+    → (u : ℕ) → Kept N F l u (atEndOf s u)
 
 -- ---- two facts about a symbol that the claim leans on (proofs/Moments)
 

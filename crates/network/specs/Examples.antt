@@ -2,7 +2,7 @@
 -- symbols. Assumes nothing.
 use mathlib.Core.Path.{_≡_}
 use mathlib.Core.List.{List, [], _∷_, _++_, map}
-use Prim.Native.Nat.{ℕ, zero, suc}
+use Prim.Native.Nat.{ℕ, zero, suc, _+_}
 use lib.ListN.{length}
 use Rattle.network.specs.Counting.{count, keep}
 use Rattle.network.specs.Model.{Network, Frame, queue}
@@ -70,6 +70,10 @@ received N l pick u = written (run N l pick (suc u) .received)
 unfoldable pub lengths : Network → List Reading → ℕ → ℕ → List ℕ
 lengths N l v u = map (λ t. length (queue (run N l first (suc t)) v)) (before u)
 
+-- the lengths of node v's queue at the end of some symbols
+unfoldable pub lengthsAt : Network → List Reading → ℕ → List ℕ → List ℕ
+lengthsAt N l v ts = map (λ t. length (queue (run N l first (suc t)) v)) ts
+
 -- the symbols in which the exchanges started that are on the air from node v at the end of each symbol before u
 unfoldable pub onAir : Network → List Reading → ℕ → ℕ → List (List ℕ)
 onAir N l v u = map (λ t. map (λ e. e .started) (run N l first (suc t) .air v)) (before u)
@@ -87,6 +91,10 @@ tie = reading 0 3 1 ∷ reading 0 2 1 ∷ []
 -- two frames in the first symbol of each of five intervals
 unfoldable pub twos : List Reading
 twos = reading 0 1 2 ∷ reading 10 1 2 ∷ reading 20 1 2 ∷ reading 30 1 2 ∷ reading 40 1 2 ∷ []
+
+-- a frame in a symbol, and one more as soon as the token bucket has room for it, twice
+unfoldable pub soonFrom : ℕ → List Reading
+soonFrom a = reading a 1 1 ∷ reading (a + 479) 1 1 ∷ reading (a + 959) 1 1 ∷ []
 
 -- What the definitions give, and what one finds by hand; proofs/ExamplesHold computes it.
 pub record ExamplesHold : Type 0 where

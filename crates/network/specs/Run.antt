@@ -92,3 +92,7 @@ pub record Run (N : Network) (l : List Reading) (s : ℕ → State) : Type 0 whe
   pub emptyQueues : (v : ℕ) → v < N .nodes → queue (s 0) v ≡ []
   pub noneReceived : s 0 .received ≡ []
   pub symbols : (t : ℕ) → Symbol N l t (s t) (s (suc t))
+
+-- the state at the end of symbol u
+abbrev pub atEndOf : (ℕ → State) → ℕ → State
+atEndOf s u = s (suc u)

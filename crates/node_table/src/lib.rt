@@ -12,7 +12,7 @@ use line_table::number_at;
 use line_table::put_line;
 use line_table::put_number;
 use measure::Symbols;
-use tree_model::NodeLine;
+use plan_model::NodeLine;
 
 // Puts the ten numbers of line i, counted from 0. No tree has more than 254 nodes: a greater index counts as 254.
 pub fn put_node(table: &mut [u64], i: usize, node: NodeLine)

@@ -7,8 +7,8 @@ use lib.ListN.{length, getD, length-append}
 use lib.Seq.{sets, getD-append-add}
 use Rattle.buffer.proofs.Putting.{sets-sets}
 use Rattle.measure.specs.Measures.{symbols}
-use Rattle.row_model.specs.declared.Line.{Line}
-use Rattle.tree_model.specs.declared.NodeLine.{NodeLine}
+use Rattle.plan_model.specs.declared.Line.{Line}
+use Rattle.plan_model.specs.declared.NodeLine.{NodeLine}
 use Rattle.line_table_model.specs.Rows.{numbersOf, lineIn}
 use Rattle.line_table_model.proofs.Numbers.{numbers-length, line-back, line-behind}
 use Rattle.line_table_model.proofs.RowLaws.{rows-length, rows-put, rows-back, rows-more}

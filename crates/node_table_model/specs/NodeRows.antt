@@ -3,7 +3,7 @@ use mathlib.Core.List.{List, [], _∷_, _++_}
 use Prim.Native.Nat.{ℕ, _+_}
 use lib.ListN.{getD}
 use Rattle.measure.specs.Measures.{symbols}
-use Rattle.tree_model.specs.declared.NodeLine.{NodeLine}
+use Rattle.plan_model.specs.declared.NodeLine.{NodeLine}
 use Rattle.line_table_model.specs.Rows.{numbersOf, lineIn, rowsOf, rowsIn}
 
 -- the numbers of a node's line: those of its nine columns, then ROUTE

@@ -1,4 +1,4 @@
-// What rows and surveyed trees share on their way to a plan: the times that settings set, and the plan of a refusal.
+// What rows and surveyed trees share on their way to a plan: the times that are set on every radio, and the plan of a refusal.
 //
 // No public function has a `requires`: each answers every argument, as an equation with a definition of plan_model says.
 ghost use mathlib.Core.Path.{_≡_};
@@ -8,17 +8,17 @@ use links::Timing;
 use plan_model::Plan;
 use refusals::Refusal;
 use refusals::Verdict;
-use settings_model::Settings;
+use settings_model::Radio;
 
-// BI, S and the exchange with LOSS of any settings.
-pub fn timing_of(s: Settings) -> Timing
-    ensures { λ r. ⌜ r ≡ timingAnswered s ⌝ }
+// BI, S and the exchange with LOSS, of whatever is set.
+pub fn timing_of(b: Radio) -> Timing
+    ensures { λ r. ⌜ r ≡ timingAnswered b ⌝ }
 {
-    let octets = measure::number::sum(s.head, s.payload);
+    let octets = measure::number::sum(b.head, b.payload);
     Timing {
-        interval: superframe::orders::beacon_interval(s.bo),
-        slot: superframe::orders::slot_length(s.so),
-        exchange: superframe::loss::lossy_exchange_time(octets, s.ack == 1, s.loss),
+        interval: superframe::orders::beacon_interval(b.bo),
+        slot: superframe::orders::slot_length(b.so),
+        exchange: superframe::loss::lossy_exchange_time(octets, b.ack == 1, b.loss),
     }
 }
 

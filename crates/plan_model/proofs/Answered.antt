@@ -11,9 +11,8 @@ use Rattle.refusals.specs.declared.Verdict.{Verdict}
 use Rattle.refusals.specs.declared.Verdict.the-variants.{Kept, Broken}
 use Rattle.refusals.specs.Outcome.{Outcome, Planned, Refused}
 use Rattle.refusals.proofs.Answering.{broken-kept}
-use Rattle.report_model.specs.Text.{refusalText}
 use Rattle.plan_model.specs.declared.Plan.{Plan}
-use Rattle.plan_model.specs.Plans.{planned, refused, answer, written, printed}
+use Rattle.plan_model.specs.Plans.{planned, refused, answer, written}
 
 pub refused-short : (most : ℕ) (x : Plan) (r : Refusal) → x ≡ refused r → x .length ≤ most
 unfolding refused
@@ -58,18 +57,3 @@ module _ {P : Type 0} (text : P → List ℕ) where
   unfolding answer planned refused
   answer-planned (Planned p) v = (p, refl)
   answer-planned (Refused x) v = broken-kept x v
-
-  -- what is printed, by the plan that was answered
-  module _ (o : Outcome P) (plan : Plan) (e : plan ≡ answer text o) where
-    -- refused: nothing was put, and the refusal is printed
-    pub refused-printed : (r : Refusal) → plan .verdict ≡ Broken r → (refusalText r ≡ printed text o) × (written text o ≡ [])
-    unfolding printed written
-    refused-printed r v = let q = answer-refused o r (sym (ap (λ (p : Plan). p .verdict) e) ∙ v) in (rw q refl, rw q refl)
-
-    -- planned: all that is printed was put
-    pub planned-printed : plan .verdict ≡ Kept → (plan .length ≡ length (printed text o)) × (written text o ≡ printed text o)
-    unfolding printed written
-    planned-printed v =
-        let q = answer-planned o (sym (ap (λ (p : Plan). p .verdict) e) ∙ v) in
-        let same : written text o ≡ printed text o = rw (q .1) refl in
-        (ap (λ (p : Plan). p .length) e ∙ answered-length o ∙ ap length same, same)

@@ -1,25 +1,9 @@
 -- Laws about the definitions of specs/. Assumes nothing.
--- loads as the functions put them together
-pub mod Made
--- the times of checked settings
+-- the times of checked settings, in their bounds
+pub mod TimeLaws
+-- and as superframe's functions answer them
 pub mod TimesMade
--- tables of links by depth
-pub mod Tables
--- from one depth to the next
-pub mod Depths
--- numbers 5 to 7, one condition after another
-pub mod Conditions
--- the slots used at a depth
-pub mod SlotsMade
--- lines, put one behind another
-pub mod PageLaws
--- lent memory with the text of lines
-pub mod Whole
--- the lines of a sound row
-pub mod PlanLines
--- the end nodes' line and line S
-pub mod Ends
 -- what is answered and put for an outcome, whatever the sort of plan
 pub mod Answered
--- the answer as a whole, and demand 3 of it
-pub mod Answers
+-- to unfold all that the figures of a link are computed with
+pub mod Computing

@@ -1,9 +1,7 @@
--- What planning answers, and what the functions of rows presume of one another. Assumes nothing.
--- what a reader must believe: the answer to an outcome, and what is put
-pub mod Plans
--- the times of any settings
+-- What a reader must believe of the words of every plan, in reading order. Assumes nothing.
+-- BI, S and X of what is set on every radio, and how many superframes fit an interval
 pub mod Times
--- what the inner functions presume and answer
-pub mod Inner
--- how they put lines
-pub mod Pages
+-- KIND's letter, a line and its figures
+pub mod Lines
+-- the answer to an outcome, and what is put
+pub mod Plans

@@ -1,11 +1,10 @@
--- An outcome as an entry answers it, what it puts into lent memory, and what a program prints: verdict, length and text. Assumes nothing: these are definitions.
+-- An outcome as an entry answers it, and what it puts into lent memory: verdict, length and text. Assumes nothing: these are definitions.
 use Prim.Native.Nat.{ℕ}
 use mathlib.Core.List.{List, []}
 use lib.ListN.{length}
 use Rattle.refusals.specs.declared.Refusal.{Refusal}
 use Rattle.refusals.specs.declared.Verdict.the-variants.{Kept, Broken}
 use Rattle.refusals.specs.Outcome.{Outcome, Planned, Refused}
-use Rattle.report_model.specs.Text.{refusalText}
 use Rattle.plan_model.specs.declared.Plan.{Plan}
 
 -- planned with this text, or refused
@@ -24,8 +23,3 @@ answer text (Refused r) = refused r
 unfoldable pub written : {P : Type 0} → (P → List ℕ) → Outcome P → List ℕ
 written text (Planned p) = text p
 written text (Refused r) = []
-
--- what a program prints: the text; "A refused row prints `R`, number and place instead"
-unfoldable pub printed : {P : Type 0} → (P → List ℕ) → Outcome P → List ℕ
-printed text (Planned p) = text p
-printed text (Refused r) = refusalText r

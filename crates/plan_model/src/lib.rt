@@ -1,32 +1,33 @@
-// What planning answers, for rows and surveyed trees, and what the functions of rows presume of one another: definitions and laws, and no
-// function. Crates plan_common, row_loads, row_plan and row_print answer them.
-use links::Load;
-use links::Reservation;
+// The words of every plan, a row's or a surveyed tree's: KIND, a line and its figures, what planning answers, and the times that settings
+// set. Definitions and laws, and no function: crate plan_common answers them. Both families are built on it, and neither on the other.
+use links::Figures;
 use measure::Symbols;
 use refusals::Verdict;
+
+// Whose link a line is of: an end node's, a router's upward or downward one; or the sink's line, which is no link's.
+pub enum Kind {
+    EndNode,
+    Upward,
+    Downward,
+    Sink,
+}
+
+// One line of a row's plan: KIND, DEPTH, and the seven figures behind them.
+pub struct Line {
+    pub kind: Kind,
+    pub depth: u64,
+    pub figures: Figures,
+}
+
+// One line of a surveyed tree's plan: document 01's nine columns, and ROUTE, the delay of a frame of the node's own over its whole route to
+// the sink.
+pub struct NodeLine {
+    pub line: Line,
+    pub route: Symbols,
+}
 
 // What settings come to: whether they are planned, and the length of the plan's text, 0 where they are refused.
 pub struct Plan {
     pub verdict: Verdict,
     pub length: usize,
-}
-
-// How far the text goes, and the sum of its lines' delays.
-pub struct Written {
-    pub end: usize,
-    pub delay: Symbols,
-}
-
-// The load that enters a link, and its reservation.
-pub struct Link {
-    pub load: Load,
-    pub reservation: Reservation,
-}
-
-// A row's links, beside two tables of them: whether they are planned, BI, the end nodes' link, and the load that comes to the sink.
-pub struct Links {
-    pub verdict: Verdict,
-    pub interval: Symbols,
-    pub end: Link,
-    pub arriving: Load,
 }

@@ -6,8 +6,8 @@
 ghost use mathlib.Core.Path.{_≡_};
 ghost use Prim.Native.Nat.{_≤_};
 ghost use Rattle.calls_model.specs.Calls.{left};
-ghost use Rattle.calls_model.specs.Entries.{planRow, checkRow};
-ghost use Rattle.calls_model.specs.Promise.{Promised};
+ghost use Rattle.row_calls_model.specs.Entries.{planRow, checkRow};
+ghost use Rattle.row_calls_model.specs.Promise.{Promised};
 use calls_model::Answer;
 
 pub mod reason; // refusals in English

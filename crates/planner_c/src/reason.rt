@@ -2,7 +2,8 @@
 ghost use mathlib.Core.Path.{_≡_};
 ghost use Rattle.reason_model.specs.Reading.{readReason};
 ghost use Rattle.calls_model.specs.Calls.{left};
-ghost use Rattle.calls_model.specs.Reasons.{explainRow, explainRefusal, numbered, ReadAgain};
+ghost use Rattle.row_calls_model.specs.Entries.{explainRow};
+ghost use Rattle.calls_model.specs.Reasons.{explainRefusal, numbered, ReadAgain};
 use calls_model::Answer;
 use calls_model::Numbered;
 

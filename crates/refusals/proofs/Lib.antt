@@ -9,3 +9,5 @@ pub mod Outcomes
 pub mod ExamplesHold
 -- every refusal has a number
 pub mod Numbers
+-- one condition that a number passes a limit
+pub mod Limits

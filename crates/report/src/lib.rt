@@ -15,9 +15,9 @@ use crate::line::put_node_ended;
 use crate::line::put_spaced;
 use buffer::put_byte;
 use buffer::put_bytes;
+use plan_model::Line;
+use plan_model::NodeLine;
 use refusals::Refusal;
-use row_model::Line;
-use tree_model::NodeLine;
 
 mod line; // one line of a plan
 

@@ -5,14 +5,14 @@ ghost use Prim.Native.Nat.{_+_, _^_, _≤_, _<_};
 ghost use lib.ListN.{length};
 ghost use lib.Seq.{sets};
 ghost use Rattle.decimal_model.specs.Decimal.{decimal};
-ghost use Rattle.row_model.specs.Lines.{letter};
+ghost use Rattle.plan_model.specs.Lines.{letter};
 ghost use Rattle.report_model.specs.Text.{lineText};
 ghost use Rattle.report_model.specs.TreeText.{nodeText};
 use buffer::put_byte;
 use decimal::put_number;
-use row_model::Kind;
-use row_model::Line;
-use tree_model::NodeLine;
+use plan_model::Kind;
+use plan_model::Line;
+use plan_model::NodeLine;
 
 // Puts a line and its LF at a position, and answers the position behind them, which must not wrap.
 pub(crate) fn put_ended(out: &mut [u8], at: usize, line: Line) -> usize

@@ -9,8 +9,8 @@ ghost use Rattle.decimal_model.specs.Decimal.{decimal};
 ghost use Rattle.report_model.specs.Text.{lineText};
 ghost use Rattle.report_model.specs.TreeText.{nodeText};
 use decimal::digits_of;
-use row_model::Line;
-use tree_model::NodeLine;
+use plan_model::Line;
+use plan_model::NodeLine;
 
 // The length of a node's line and its LF.
 pub fn node_line_length(node: NodeLine) -> usize

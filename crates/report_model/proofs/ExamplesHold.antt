@@ -4,7 +4,7 @@ use Rattle.decimal_model.specs.Ascii.{ascii}
 use Rattle.decimal_model.specs.Decimal.{digitsBy, decimal}
 use Rattle.lines.specs.Text.{joined, ended}
 use Rattle.refusals.specs.Refusals.{treeNumber, treePlace, numberOf, placeOf}
-use Rattle.row_model.specs.Lines.{letter}
+use Rattle.plan_model.specs.Lines.{letter}
 use Rattle.report_model.specs.Text.{header, numbers, lineText, text, refusalText}
 use Rattle.report_model.specs.TreeText.{treeHeader, nodeText, treeText}
 use Rattle.report_model.specs.Examples.{counted, routed, Examples}

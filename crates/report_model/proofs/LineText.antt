@@ -8,9 +8,9 @@ use Rattle.decimal_model.specs.Decimal.{decimal}
 use Rattle.lines.specs.Text.{joined, ended}
 use Rattle.refusals.specs.declared.Refusal.{Refusal}
 use Rattle.refusals.specs.Refusals.{numberOf, placeOf}
-use Rattle.row_model.specs.declared.Line.{Line}
-use Rattle.row_model.specs.Lines.{letter}
-use Rattle.tree_model.specs.declared.NodeLine.{NodeLine}
+use Rattle.plan_model.specs.declared.Line.{Line}
+use Rattle.plan_model.specs.Lines.{letter}
+use Rattle.plan_model.specs.declared.NodeLine.{NodeLine}
 use Rattle.report_model.specs.Text.{header, numbers, lineText, text, refusalText}
 use Rattle.report_model.specs.TreeText.{nodeText}
 

@@ -13,10 +13,10 @@ use Rattle.decimal_model.proofs.Writing.{written-in-decimal, written-apart}
 use Rattle.lines.specs.Text.{fields, lines}
 use Rattle.lines.specs.Laws.{lacks, allLack}
 use Rattle.lines.proofs.Parting.{lacks-above, joined-lacks, values-of-line, lines-of-text}
-use Rattle.row_model.specs.declared.Kind.{Kind}
-use Rattle.row_model.specs.declared.Kind.the-variants.{EndNode, Upward, Downward, Sink}
-use Rattle.row_model.specs.declared.Line.{Line}
-use Rattle.row_model.specs.Lines.{letter}
+use Rattle.plan_model.specs.declared.Kind.{Kind}
+use Rattle.plan_model.specs.declared.Kind.the-variants.{EndNode, Upward, Downward, Sink}
+use Rattle.plan_model.specs.declared.Line.{Line}
+use Rattle.plan_model.specs.Lines.{letter}
 use Rattle.report_model.specs.Text.{header, numbers, lineText, text}
 use Rattle.report_model.specs.Laws.{OneTextForLines}
 

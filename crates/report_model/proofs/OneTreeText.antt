@@ -11,9 +11,9 @@ use Rattle.decimal_model.proofs.Writing.{written-apart}
 use Rattle.lines.specs.Text.{fields, lines}
 use Rattle.lines.specs.Laws.{lacks, allLack}
 use Rattle.lines.proofs.Parting.{joined-lacks, values-of-line, lines-of-text}
-use Rattle.row_model.specs.declared.Line.{Line}
-use Rattle.row_model.specs.Lines.{letter}
-use Rattle.tree_model.specs.declared.NodeLine.{NodeLine}
+use Rattle.plan_model.specs.declared.Line.{Line}
+use Rattle.plan_model.specs.Lines.{letter}
+use Rattle.plan_model.specs.declared.NodeLine.{NodeLine}
 use Rattle.report_model.specs.Text.{numbers}
 use Rattle.report_model.specs.TreeText.{treeHeader, nodeText, treeText}
 use Rattle.report_model.specs.Laws.{OneTextForTrees}

@@ -4,12 +4,12 @@ use mathlib.Core.List.{[], _∷_}
 use Rattle.decimal_model.specs.Ascii.{ascii}
 use Rattle.refusals.specs.declared.Refusal.the-variants.{Names, TextAfter, LentTooShort, InputTooLong, InTree}
 use Rattle.refusals.specs.declared.TreeRefusal.the-variants.{NodeLine as BrokenLine, SinkNode, RouterReservations, RouterSlots}
-use Rattle.row_model.specs.declared.Kind.{Kind}
-use Rattle.row_model.specs.declared.Kind.the-variants.{EndNode, Upward, Downward, Sink}
-use Rattle.row_model.specs.declared.Line.{Line}
-use Rattle.row_model.specs.Lines.{line}
+use Rattle.plan_model.specs.declared.Kind.{Kind}
+use Rattle.plan_model.specs.declared.Kind.the-variants.{EndNode, Upward, Downward, Sink}
+use Rattle.plan_model.specs.declared.Line.{Line}
+use Rattle.plan_model.specs.Lines.{line}
 use Rattle.measure.specs.Measures.{symbols, slots, frames, frameSymbols, perInterval}
-use Rattle.tree_model.specs.declared.NodeLine.{NodeLine}
+use Rattle.plan_model.specs.declared.NodeLine.{NodeLine}
 use Rattle.report_model.specs.Text.{lineText, text, refusalText}
 use Rattle.report_model.specs.TreeText.{nodeText, treeText}
 

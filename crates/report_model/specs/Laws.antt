@@ -1,8 +1,8 @@
 -- What holds of printed plans, for the layers above. Assumes nothing: these are statements; proofs/ proves them.
 use mathlib.Core.Path.{_≡_}
 use mathlib.Core.List.{List}
-use Rattle.row_model.specs.declared.Line.{Line}
-use Rattle.tree_model.specs.declared.NodeLine.{NodeLine}
+use Rattle.plan_model.specs.declared.Line.{Line}
+use Rattle.plan_model.specs.declared.NodeLine.{NodeLine}
 use Rattle.report_model.specs.Text.{text}
 use Rattle.report_model.specs.TreeText.{treeText}
 

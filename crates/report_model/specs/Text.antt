@@ -6,8 +6,8 @@ use Rattle.decimal_model.specs.Decimal.{decimal}
 use Rattle.lines.specs.Text.{joined, ended}
 use Rattle.refusals.specs.declared.Refusal.{Refusal}
 use Rattle.refusals.specs.Refusals.{numberOf, placeOf}
-use Rattle.row_model.specs.declared.Line.{Line}
-use Rattle.row_model.specs.Lines.{letter}
+use Rattle.plan_model.specs.declared.Line.{Line}
+use Rattle.plan_model.specs.Lines.{letter}
 
 -- the header line
 unfoldable pub header : List ℕ

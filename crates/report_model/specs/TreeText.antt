@@ -4,8 +4,8 @@ use mathlib.Core.List.{List, [], _∷_, _++_, map}
 use Rattle.decimal_model.specs.Ascii.{ascii}
 use Rattle.decimal_model.specs.Decimal.{decimal}
 use Rattle.lines.specs.Text.{joined, ended}
-use Rattle.row_model.specs.Lines.{letter}
-use Rattle.tree_model.specs.declared.NodeLine.{NodeLine}
+use Rattle.plan_model.specs.Lines.{letter}
+use Rattle.plan_model.specs.declared.NodeLine.{NodeLine}
 use Rattle.report_model.specs.Text.{numbers}
 
 -- "a header line of document 01's names and ROUTE"

@@ -5,9 +5,9 @@
 ghost use mathlib.Core.Path.{_≡_};
 ghost use Prim.Native.Nat.{_≤_};
 ghost use Rattle.calls_model.specs.Calls.{left};
-ghost use Rattle.calls_model.specs.Entries.{planRow, checkRow};
-ghost use Rattle.calls_model.specs.Reasons.{explainRow, ReadAgain};
-ghost use Rattle.calls_model.specs.Promise.{Promised};
+ghost use Rattle.row_calls_model.specs.Entries.{planRow, checkRow, explainRow};
+ghost use Rattle.calls_model.specs.Reasons.{ReadAgain};
+ghost use Rattle.row_calls_model.specs.Promise.{Promised};
 use calls::answer_of;
 use calls::leave;
 use calls::refused;

@@ -9,7 +9,7 @@ ghost use Rattle.refusals.specs.declared.Verdict.the-variants.{Kept, Broken};
 ghost use Rattle.refusals.specs.Conditions.{firstBroken};
 ghost use Rattle.settings_model.specs.Laws.{Checked};
 ghost use Rattle.row_model.specs.Checks.{reservations, routersFit};
-ghost use Rattle.plan_model.specs.Inner.{checksBeforeSlots};
+ghost use Rattle.row_plan_model.specs.Inner.{checksBeforeSlots};
 use refusals::Refusal;
 use refusals::Verdict;
 use settings_model::Settings;

@@ -5,8 +5,10 @@
 ghost use mathlib.Core.Path.{_≡_};
 ghost use Rattle.refusals.specs.declared.Verdict.the-variants.{Kept, Broken};
 ghost use Rattle.refusals.specs.Conditions.{firstBroken};
+ghost use Rattle.settings_model.specs.Checks.{radioOf};
+ghost use Rattle.plan_model.specs.Times.{timingAnswered};
 ghost use Rattle.row_model.specs.Bounds.{Sound};
-ghost use Rattle.plan_model.specs.Inner.{LinksHeld, LinksLeft, noLinks, checksBeforeSlots};
+ghost use Rattle.row_plan_model.specs.Inner.{LinksHeld, LinksLeft, noLinks, checksBeforeSlots};
 use crate::loads::downward_links;
 use crate::loads::link_for;
 use crate::loads::near_load;
@@ -15,11 +17,13 @@ use crate::loads::sensor_load;
 use crate::loads::upward_links;
 use crate::table::link_at;
 use crate::table::no_link;
+use links::Timing;
 use measure::Symbols;
 use plan_common::timing_of;
-use plan_model::Links;
 use refusals::Verdict;
 use row_check::check_before_slots;
+use row_plan_model::Links;
+use settings::radio_of;
 use settings_model::Settings;
 
 pub mod table; // the links of the depths
@@ -59,7 +63,7 @@ fn sound_links(s: Settings, up: &mut [u64; 65], down: &mut [u64; 65]) -> Links
     ensures { λ r. ⌜ r .verdict ≡ Kept ⌝ }
     ensures { λ r. ⌜ LinksHeld s r (now (up .exit)) (now (down .exit)) ⌝ }
 {
-    let t = timing_of(s);
+    let t = row_timing(s);
     let made = sensor_load(s, t);
     let end = link_for(t, made);
     let local = near_load(s, made, end.reservation);
@@ -73,4 +77,11 @@ fn sound_links(s: Settings, up: &mut [u64; 65], down: &mut [u64; 65]) -> Links
         end,
         arriving,
     }
+}
+
+// The times of a row.
+fn row_timing(s: Settings) -> Timing
+    ensures { λ r. ⌜ r ≡ timingAnswered (radioOf s) ⌝ }
+{
+    timing_of(radio_of(s))
 }

@@ -3,10 +3,10 @@ ghost use mathlib.Core.Path.{_≡_};
 ghost use Prim.Native.Nat.{_≤_, _<_, _^_};
 ghost use lib.ListN.{length};
 ghost use Rattle.links.specs.Answers.{Timed};
-ghost use Rattle.row_model.specs.Times.{timingOf};
+ghost use Rattle.row_model.specs.Times.{rowTiming};
 ghost use Rattle.row_model.specs.Loads.{sensor, near};
 ghost use Rattle.row_model.specs.Bounds.{Sound, Bounded};
-ghost use Rattle.plan_model.specs.Inner.{HeldFrom, HeldBelow, coming, joined, leftBy, linkOf, linkUp, linkDown, noLoad};
+ghost use Rattle.row_plan_model.specs.Inner.{HeldFrom, HeldBelow, coming, joined, leftBy, linkOf, linkUp, linkDown, noLoad};
 use crate::table::link_at;
 use crate::table::set_link;
 use links::Load;
@@ -15,13 +15,13 @@ use links::Timing;
 use measure::FrameSymbols;
 use measure::Frames;
 use measure::Rate;
-use plan_model::Link;
+use row_plan_model::Link;
 use settings_model::Settings;
 
 // The load of a sensor.
 pub(crate) fn sensor_load(s: Settings, t: Timing) -> Load
     requires { ⌜ Sound s ⌝ }
-    requires { ⌜ t ≡ timingOf s ⌝ }
+    requires { ⌜ t ≡ rowTiming s ⌝ }
     ensures { λ r. ⌜ r ≡ sensor s ⌝ }
 {
     Load {
@@ -34,7 +34,7 @@ pub(crate) fn sensor_load(s: Settings, t: Timing) -> Load
 pub(crate) fn near_load(s: Settings, made: Load, end: Reservation) -> Load
     requires { ⌜ Sound s ⌝ }
     requires { ⌜ made ≡ sensor s ⌝ }
-    requires { ⌜ end ≡ linkOf (timingOf s) (sensor s) .reservation ⌝ }
+    requires { ⌜ end ≡ linkOf (rowTiming s) (sensor s) .reservation ⌝ }
     ensures { λ r. ⌜ r ≡ near s ⌝ }
 {
     made.times(s.own).plus(made.after(end).times(s.ne))
@@ -69,7 +69,7 @@ pub(crate) fn no_load() -> Load
 // Sets the upward links of depths H to i, by recursion from depth H towards the root, and answers that of depth i.
 pub(crate) fn upward_links(s: Settings, t: Timing, local: Load, i: u64, up: &mut [u64]) -> Link
     requires { ⌜ Sound s ⌝ }
-    requires { ⌜ t ≡ timingOf s ⌝ }
+    requires { ⌜ t ≡ rowTiming s ⌝ }
     requires { ⌜ local ≡ near s ⌝ }
     requires { ⌜ i ≤ s .h ⌝ }
     requires { ⌜ length (now up) ≡ 65 ⌝ }
@@ -97,7 +97,7 @@ pub(crate) fn downward_links(
     down: &mut [u64],
 ) -> Load
     requires { ⌜ Sound s ⌝ }
-    requires { ⌜ t ≡ timingOf s ⌝ }
+    requires { ⌜ t ≡ rowTiming s ⌝ }
     requires { ⌜ local ≡ near s ⌝ }
     requires { ⌜ HeldFrom (linkUp s) 0 (s .h) (now up) ⌝ }
     requires { ⌜ length (now down) ≡ 65 ⌝ }

@@ -3,7 +3,7 @@
 ghost use mathlib.Core.Path.{_≡_};
 ghost use Prim.Native.Nat.{_<_, min};
 ghost use lib.ListN.{length};
-ghost use Rattle.plan_model.specs.Inner.{linkIn, linkSet, noLink};
+ghost use Rattle.row_plan_model.specs.Inner.{linkIn, linkSet, noLink};
 use links::Load;
 use links::Reservation;
 use measure::FrameSymbols;
@@ -11,7 +11,7 @@ use measure::Frames;
 use measure::Rate;
 use measure::Slots;
 use measure::Symbols;
-use plan_model::Link;
+use row_plan_model::Link;
 
 // The link of depth i. No row is deeper than 12: a greater depth counts as 12.
 pub fn link_at(table: &[u64; 65], i: u64) -> Link

@@ -12,11 +12,12 @@ use Rattle.refusals.specs.declared.Refusal.{Refusal}
 use Rattle.refusals.specs.Conditions.{Condition, Unbroken}
 use Rattle.refusals.proofs.Unbroken.{unbroken-append, unbroken-left, unbroken-right}
 use Rattle.settings_model.specs.declared.Settings.{Settings}
-use Rattle.settings_model.specs.Checks.{checks}
+use Rattle.settings_model.specs.Checks.{radioOf, checks}
 use Rattle.settings_model.specs.Laws.{Checked}
 use Rattle.settings_model.proofs.LawsHold.{unbroken-where-checked}
 use Rattle.row_model.specs.Times.{reservableAt}
-use Rattle.row_model.specs.Checks.{reservations, routers, superframes, routersFit, usedOffPath, usedOnPath, hasOffPath, hasOnPath, offPathAt, onPathAt, usedAt, usedFrom, conditions}
+use Rattle.row_model.specs.Checks.{reservations, routers, routersFit, usedOffPath, usedOnPath, hasOffPath, hasOnPath, offPathAt, onPathAt, usedAt, usedFrom, conditions}
+use Rattle.plan_model.specs.Times.{superframes}
 use Rattle.row_model.specs.Bounds.{Sound}
 use Rattle.row_model.specs.Laws.{Plannable}
 
@@ -85,7 +86,7 @@ module _ (s : Settings) where
       record {
         checked = checked;
         reservations = ltb-false 7 _ (five .0);
-        routers = ltb-false (superframes s) (routers s) (six .0);
+        routers = ltb-false (superframes (radioOf s)) (routers s) (six .0);
         offPath = λ i h z. asked (hasOffPath s i) _ _ (seven i (omega arith) .0) (off-path i z);
         onPath = λ i h. asked (hasOnPath s i) _ _ (seven i (omega (arith, checked .sinkDepth)) .1 .0) (lt-ltb i (s .sink) h);
       }
@@ -96,7 +97,7 @@ module _ (s : Settings) where
       unbroken-append before-7 (usedFrom s (suc (s .h)) 0)
       (unbroken-append before-6 (routersFit s)
       (unbroken-append (checks s) (reservations s) (unbroken-where-checked s .1 (P .checked)) (le-ltb 7 _ (P .reservations), tt))
-      (le-ltb (superframes s) (routers s) (P .routers), tt))
+      (le-ltb (superframes (radioOf s)) (routers s) (P .routers), tt))
       (held-all (suc (s .h)) 0 (λ j h. (off j (omega arith), (on j, tt))))
     where
       off : (j : ℕ) → j ≤ s .h → (hasOffPath s j && ltb (reservableAt s j .0) (usedOffPath s j .0)) ≡ false
@@ -106,8 +107,8 @@ module _ (s : Settings) where
       on j = kept (hasOnPath s j) _ _ (λ t. P .onPath j (ltb-true j (s .sink) t))
 
   -- numbers 3 to 6 leave at most 2^14 routers
-  pub few-routers : Checked s → routers s ≤ superframes s → Sound s
+  pub few-routers : Checked s → routers s ≤ superframes (radioOf s) → Sound s
   unfolding superframes
   few-routers C h =
-      let most : s .bo - s .so ≤ 14 = omega (arith, C .bo) in
+      let most : s .bo - s .so ≤ 14 = omega (arith, C .radio .bo) in
       record { checked = C; few = omega (arith, pow-mono most) }

@@ -16,13 +16,15 @@ use Rattle.network.proofs.Sums.{total-add, total-mono, total-mul, total-zero, t
 use Rattle.network.proofs.Bounds.{feeds-true}
 use Rattle.links.specs.declared.Load.{Load}
 use Rattle.settings_model.specs.declared.Settings.{Settings}
-use Rattle.row_model.specs.declared.Line.{Line}
+use Rattle.plan_model.specs.declared.Line.{Line}
 use Rattle.row_model.specs.Loads.{sensor, left, upward, downward, atSink, sinkAt}
-use Rattle.row_model.specs.Tree.{Tree, Within, sinkBelow, networkOf}
+use Rattle.row_model.specs.Tree.{Tree, Within, sinkBelow}
+use Rattle.row_model.specs.Promise.{networkOf, siteOf, printedOf}
 use Rattle.row_model.proofs.Recurrences.{routersBelow, comesDown, Adds, near-sum, upward-sum, downward-sum, sink-sum}
 use Rattle.row_model.proofs.Ways.{onWay, sink-on-way, above-on-way, other-off-way, off-way-not-below}
 use Rattle.row_model.proofs.Feeders.{Feeder, endNodeBelow, routerBelow, routerAbove, endBelow, upFrom, downFrom, feeder, end-node-unfed, ends-few, up-few, up-fewer}
 use Rattle.row_model.proofs.NodeLoads.{linkLoad, entering}
+use Rattle.promise_model.specs.Promise as promise
 
 -- g is the measure, and sent what leaves each node but the sink in it
 module _ (s : Settings) (T : Tree) (W : Within s T) (p : List Line) (offset : ℕ → ℕ) (g : Load → ℕ) (G : Adds g)
@@ -53,7 +55,7 @@ module _ (s : Settings) (T : Tree) (W : Within s T) (p : List Line) (offset : �
 
   -- and so does every node that sends to v
   from-at-most : (v w : ℕ) → w < T .nodes → from v w ≤ endBelow T v w * ofEnd + (upFrom T v w * ofBelow v + downFrom T v w * ofAbove v)
-  unfolding networkOf bit
+  unfolding promise.networkOf siteOf printedOf bit
   from-at-most v w hw = by (feeds (networkOf s p T offset) w v) refl
     where
       by : (b : Bool) → feeds (networkOf s p T offset) w v ≡ b → bit b * sent w ≤ endBelow T v w * ofEnd + (upFrom T v w * ofBelow v + downFrom T v w * ofAbove v)
@@ -88,7 +90,7 @@ module _ (s : Settings) (T : Tree) (W : Within s T) (p : List Line) (offset : �
 
   -- nothing comes to an end node
   nothing-coming : (v : ℕ) → T .isRouter v ≡ false → coming v ≤ 0
-  unfolding networkOf bit
+  unfolding promise.networkOf siteOf printedOf bit
   nothing-coming v x = omega (arith, total-zero (T .nodes), total-mono (from v) (λ w. 0) (T .nodes) (λ w hw. by w hw (feeds (networkOf s p T offset) w v) refl))
     where
       by : (w : ℕ) → w < T .nodes → (b : Bool) → feeds (networkOf s p T offset) w v ≡ b → bit b * sent w ≤ 0

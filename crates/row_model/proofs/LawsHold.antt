@@ -13,24 +13,26 @@ use Rattle.links.specs.Link.{reservationOf, figuresBy, figuresOf}
 use Rattle.links.proofs.LinkLaws.{slots-hold}
 use Rattle.settings_model.specs.declared.Settings.{Settings}
 use Rattle.settings_model.specs.Laws.{Checked}
-use Rattle.row_model.specs.declared.Kind.{Kind}
-use Rattle.row_model.specs.declared.Kind.the-variants.{EndNode, Upward, Downward, Sink}
-use Rattle.row_model.specs.declared.Line.{Line}
-use Rattle.row_model.specs.Times.{timingOf}
+use Rattle.plan_model.specs.declared.Kind.{Kind}
+use Rattle.plan_model.specs.declared.Kind.the-variants.{EndNode, Upward, Downward, Sink}
+use Rattle.plan_model.specs.declared.Line.{Line}
+use Rattle.row_model.specs.Times.{rowTiming}
 use Rattle.row_model.specs.Loads.{sensor, upward, downward, sinkAt, atSink}
 use Rattle.row_model.specs.Checks.{conditions}
-use Rattle.row_model.specs.Lines.{linkFor, endLink, upLink, downLink, line, endLines, upLines, downLines, lines, letter, sameKind}
+use Rattle.row_model.specs.Lines.{linkFor, endLink, upLink, downLink, endLines, upLines, downLines, lines}
+use Rattle.plan_model.specs.Lines.{line, letter, sameKind}
 use Rattle.refusals.proofs.Outcomes.{planned-unbroken, unbroken-planned}
 use Rattle.refusals.specs.Outcome.{Planned}
 use Rattle.row_model.specs.Outcome.{outcomeOf}
 use Rattle.row_model.specs.Bounds.{Bounded}
 use Rattle.row_model.specs.Promise.{Keeps}
 use Rattle.row_model.specs.Laws.{Plannable, PlannedExactly, NoSlotTooMany, EveryLoadBounded, EveryPlanKeeps, WindowsExist}
-use Rattle.row_model.proofs.LoadLaws.{timed}
+use Rattle.plan_model.proofs.TimeLaws.{timed}
 use Rattle.row_model.proofs.LoadBounds.{upward-bounded, downward-bounded, sink-below-bounded}
 use Rattle.row_model.proofs.Conditions.{unbroken-plannable, plannable-unbroken}
 use Rattle.row_model.proofs.Promised.{keeps}
 use Rattle.row_model.proofs.WindowsFit.{windows-fit}
+use Rattle.settings_model.specs.Checks.{radioOf}
 
 -- ---- planned exactly
 
@@ -51,11 +53,11 @@ of-plans Q f s p e = let h = planned-exactly s p .0 e in subst (Q s) (h .1) (f s
 module _ (s : Settings) (C : Checked s) where
   -- on a link's line SLOTS is the smallest count that holds RATE
   abbrev Fewest : Line → Type 0
-  Fewest l = sameKind (l .kind) Sink ≡ false → Smallest (l .figures .rate) (timingOf s .slot) (timingOf s .exchange) (l .figures .slots)
+  Fewest l = sameKind (l .kind) Sink ≡ false → Smallest (l .figures .rate) (rowTiming s .slot) (rowTiming s .exchange) (l .figures .slots)
 
   link-fewest : (k : Kind) (d : ℕ) (a : Load) → Fewest (line k d (linkFor s a))
   unfolding linkFor figuresOf figuresBy reservationOf
-  link-fewest k d a h = slots-hold (timingOf s) (a .rate) (timed s C)
+  link-fewest k d a h = slots-hold (rowTiming s) (a .rate) (timed (radioOf s) (C .radio))
 
   end-fewest : All Fewest (endLines s)
   unfolding endLines endLink

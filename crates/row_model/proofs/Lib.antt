@@ -26,8 +26,6 @@ pub mod Entering
 pub mod RouteDelays
 -- the figures of a tree fulfil the network's hypotheses
 pub mod Provisions
--- readings keep their token buckets
-pub mod Sensing
 -- demand 3
 pub mod Promised
 -- windows exist
@@ -39,7 +37,5 @@ pub mod LawsHold
 pub mod LoneSinks
 -- all that a plan is computed with
 pub mod Computing
--- symbols in a stretch of symbols
-pub mod Stretches
 -- hypotheses that are met, with traffic, a full queue, and slots all used
 pub mod Witnesses

@@ -12,8 +12,10 @@ use Rattle.settings_model.specs.declared.Settings.{Settings}
 use Rattle.row_model.specs.Loads.{sensor, left, near, above, upward, downward}
 use Rattle.row_model.specs.Checks.{routers}
 use Rattle.row_model.specs.Bounds.{Sound, Bounded}
-use Rattle.row_model.proofs.LoadLaws.{interval-low, exchange-low, sensor-rate, sensor-burst, left-rate, left-bound, longest, upward-last}
+use Rattle.plan_model.proofs.TimeLaws.{interval-low, exchange-low}
+use Rattle.row_model.proofs.LoadLaws.{sensor-rate, sensor-burst, left-rate, left-bound, longest, upward-last}
 use Rattle.row_model.proofs.Growth.{upward-rate, upward-burst, downward-load, Passing}
+use Rattle.settings_model.specs.Checks.{radioOf}
 
 -- the routers of a tree with n depths below its root, each with k child routers
 abbrev pub full : ℕ → ℕ → ℕ
@@ -138,8 +140,8 @@ module _ (s : Settings) (S : Sound s) where
 
   grows-most : grows s ≤ 8 * (255 * 15728640 + 4095 * 15734360)
   grows-most =
-      let w : longest s ≤ 15734360 = omega (arith, interval-low s (S .checked), exchange-low s (S .checked)) in
-      let β : sensor s .burst .0 ≤ 255 * 15728640 = omega (arith, sensor-burst s, mul-le-mul (S .checked .burst .1) (interval-low s (S .checked))) in
+      let w : longest s ≤ 15734360 = omega (arith, interval-low (radioOf s) (S .checked .radio), exchange-low (radioOf s) (S .checked .radio)) in
+      let β : sensor s .burst .0 ≤ 255 * 15728640 = omega (arith, sensor-burst s, mul-le-mul (S .checked .burst .1) (interval-low (radioOf s) (S .checked .radio))) in
       let x : sensor s .burst .0 + s .rate * longest s ≤ 255 * 15728640 + 4095 * 15734360 = omega (arith, mul-le-mul (S .checked .rate .1) w) in
       mul-le-mul sensors-few x
 
@@ -188,16 +190,16 @@ module _ (s : Settings) (S : Sound s) where
   pub sensor-bounded : Bounded (sensor s)
   sensor-bounded = record {
     rate = omega (arith, sensor-rate s, S .checked .rate .1);
-    burst = omega (arith, sensor-burst s, mul-le-mul (S .checked .burst .1) (interval-low s (S .checked)));
+    burst = omega (arith, sensor-burst s, mul-le-mul (S .checked .burst .1) (interval-low (radioOf s) (S .checked .radio)));
   }
 
   pub sensor-left-bounded : Bounded (left s (sensor s))
   sensor-left-bounded =
-      let w : longest s ≤ 15734360 = omega (arith, interval-low s (S .checked), exchange-low s (S .checked)) in
+      let w : longest s ≤ 15734360 = omega (arith, interval-low (radioOf s) (S .checked .radio), exchange-low (radioOf s) (S .checked .radio)) in
       let ρ : sensor s .rate .0 ≤ 4095 = omega (arith, sensor-rate s, S .checked .rate .1) in
       record {
         rate = omega (arith, left-rate s (sensor s));
-        burst = omega (arith, left-bound s (sensor s), sensor-burst s, mul-le-mul (S .checked .burst .1) (interval-low s (S .checked)), mul-le-mul ρ w);
+        burst = omega (arith, left-bound s (sensor s), sensor-burst s, mul-le-mul (S .checked .burst .1) (interval-low (radioOf s) (S .checked .radio)), mul-le-mul ρ w);
       }
 
   -- what enters every router

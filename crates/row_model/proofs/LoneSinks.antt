@@ -9,15 +9,18 @@ use borrow.Author.Tests.{le-ltb}
 use Rattle.network.specs.Counting.{total, join}
 use Rattle.settings_model.specs.declared.Settings.{Settings}
 use Rattle.settings_model.specs.Laws.{Checked}
-use Rattle.row_model.specs.declared.Kind.the-variants.{Sink}
-use Rattle.row_model.specs.declared.Line.{Line}
+use Rattle.plan_model.specs.declared.Kind.the-variants.{Sink}
+use Rattle.plan_model.specs.declared.Line.{Line}
 use Rattle.row_model.specs.Times.{routersBelow}
 use Rattle.row_model.specs.Loads.{sensor}
-use Rattle.row_model.specs.Checks.{routers, superframes, slotsNeeded, usedBelow, usedOffPath}
-use Rattle.row_model.specs.Lines.{line, upLink, downLink, totalDelay, sinkFigures, endLines, upLines, downLines, lines}
+use Rattle.row_model.specs.Checks.{routers, slotsNeeded, usedBelow, usedOffPath}
+use Rattle.plan_model.specs.Times.{superframes}
+use Rattle.plan_model.specs.Lines.{line}
+use Rattle.row_model.specs.Lines.{upLink, downLink, totalDelay, sinkFigures, endLines, upLines, downLines, lines}
 use Rattle.row_model.specs.Laws.{Plannable, LoneSink}
 use Rattle.row_model.proofs.LoadBounds.{full, full-one}
 use Rattle.row_model.proofs.LawsHold.{planned-exactly}
+use Rattle.settings_model.specs.Checks.{radioOf}
 
 module _ (s : Settings) (C : Checked s) (flat : s .h ≡ 0) (bare : s .ne ≡ 0) where
   no-children : s .nr ≡ 0
@@ -33,7 +36,7 @@ module _ (s : Settings) (C : Checked s) (flat : s .h ≡ 0) (bare : s .ne ≡ 0)
   unfolding routers
   one-router = ap (full (s .nr)) flat ∙ full-one (s .nr)
 
-  some-superframe : 1 ≤ superframes s
+  some-superframe : 1 ≤ superframes (radioOf s)
   unfolding superframes
   some-superframe = pow-pos (s .bo - s .so)
 

@@ -11,7 +11,7 @@ use Rattle.links.specs.declared.Figures.{Figures}
 use Rattle.links.specs.Link.{slotsOf, reservationOf, figuresBy, figuresOf}
 use Rattle.settings_model.specs.declared.Settings.{Settings}
 use Rattle.settings_model.specs.Laws.{Checked}
-use Rattle.row_model.specs.Times.{timingOf}
+use Rattle.row_model.specs.Times.{rowTiming}
 use Rattle.row_model.specs.Loads.{sensor, upward, downward, atSink}
 use Rattle.row_model.specs.Lines.{linkFor, endLink, upLink, downLink, lines}
 use Rattle.row_model.specs.Tree.{Tree, Within, sinkBelow, lineOf}
@@ -70,7 +70,7 @@ module _ (s : Settings) (T : Tree) (W : Within s T) where
       by (upRouter x e i d h) = rw (x, e, d) (reads-up s (suc i) (omega arith) h)
       by (downRouter x e h) = rw (x, e) (reads-down s (T .depth v) h)
 
-  pub line-slots : (v : ℕ) → v < T .nodes → v ≢ T .sink → lineOf T (lines s) v .slots ≡ slotsOf (timingOf s) (linkLoad s T v .rate)
+  pub line-slots : (v : ℕ) → v < T .nodes → v ≢ T .sink → lineOf T (lines s) v .slots ≡ slotsOf (rowTiming s) (linkLoad s T v .rate)
   unfolding linkFor figuresOf figuresBy reservationOf
   line-slots v hv ns = ap (λ (f : Figures). f .slots) (line-is v hv ns)
 

@@ -1,75 +1,69 @@
 -- Demand 3: the lines of checked settings hold in every run of every tree within the row. Assumes nothing.
-use mathlib.Core.Path.{_≡_, subst}
-use mathlib.Core.List.{List}
-use Prim.Native.Nat.{ℕ, suc, _+_, _*_, _≤_}
+use mathlib.Core.Path.{_≡_, refl, ap}
+use mathlib.Core.Bool.{Bool, true, false, cond, not, _||_}
+use Prim.Native.Nat.{ℕ, zero, suc, _*_, _≤_}
 use native.Mathlib.Omega.{arith}
-use lib.ListN.{length}
-use Rattle.network.specs.Counting.{count}
-use Rattle.network.specs.Model.{Network, State, queue}
-use Rattle.network.specs.Readings.{Reading}
-use Rattle.network.specs.Loads.{Linked}
-use Rattle.network.specs.Claim.{within, Kept}
-use Rattle.network.proofs.Lists.{All-imp}
-use Rattle.network.proofs.Theorem.{every-run-is-kept}
+use lib.Dec.{eqb}
 use Rattle.links.specs.declared.Load.{Load}
 use Rattle.links.proofs.LinkLaws.{buffer-holds}
+use Rattle.promise_model.specs.Laws.{Covered}
+use Rattle.promise_model.proofs.LawsHold.{covered-is-kept}
 use Rattle.settings_model.specs.declared.Settings.{Settings}
+use Rattle.settings_model.specs.Checks.{radioOf}
 use Rattle.settings_model.specs.Laws.{Checked}
-use Rattle.row_model.specs.Times.{timingOf}
+use Rattle.plan_model.proofs.TimeLaws.{interval-positive}
+use Rattle.row_model.specs.Times.{rowTiming}
 use Rattle.row_model.specs.Loads.{left}
 use Rattle.row_model.specs.Lines.{linkFor, sinkFigures, lines}
-use Rattle.row_model.specs.Tree.{Tree, Within, lineOf, networkOf}
-use Rattle.row_model.specs.Promise.{sinkLine, Held, Keeps}
-use Rattle.row_model.proofs.LoadLaws.{interval-positive}
+use Rattle.row_model.specs.Tree.{Tree, Within}
+use Rattle.row_model.specs.Promise.{senses, siteOf, sinkLine, printedOf, Keeps}
 use Rattle.row_model.proofs.ReadOff.{reads-sink}
+use Rattle.row_model.proofs.LoadLaws.{sensor-rate, sensor-burst}
 use Rattle.row_model.proofs.NodeLoads.{linkLoad, entering-sink, line-is}
-use Rattle.row_model.proofs.RouteDelays.{routeDelay, route-within-total}
+use Rattle.row_model.proofs.RouteDelays.{route-within-total}
 use Rattle.row_model.proofs.Provisions.{treeFigures, tree-burst-after, provisioned}
-use Rattle.row_model.proofs.Sensing.{buckets}
 
 -- line S of the plan has the load that enters the sink and the total delay
 sink-line-is : (s : Settings) → sinkLine s (lines s) ≡ sinkFigures s
 unfolding sinkLine
 sink-line-is s = reads-sink s
 
-module _ (s : Settings) (T : Tree) (W : Within s T) (offset : ℕ → ℕ) (l : List Reading) (u : ℕ) (now : State)
-    (K : Kept (networkOf s (lines s) T offset) (treeFigures s T) l u now) where
-  abbrev N : Network
-  N = networkOf s (lines s) T offset
+-- a router's sensor counts where OWN is 1, an end node's always
+counted : (s : Settings) → Checked s → (q : ℕ) (b : Bool) → cond (not b || eqb (s .own) 1) q 0 ≤ cond b (s .own * q) q
+counted s C q false = omega arith
+counted s C q true = by (s .own) (C .own)
+  where
+    by : (o : ℕ) → o ≤ 1 → cond (eqb o 1) q 0 ≤ o * q
+    by zero h = omega arith
+    by (suc zero) h = omega arith
+    by (suc (suc o)) h = absurd (omega (arith, h))
 
-  -- a queue's bound, not rounded, fits the buffer of its line
-  queue-fits : (v : ℕ) → Linked N v → length (queue now v) ≤ lineOf T (lines s) v .buffer .0
-  unfolding networkOf linkFor left
-  queue-fits v L =
-      rw (line-is s T W v (L .node) (L .notSink))
-      (buffer-holds (timingOf s) (linkLoad s T v) (length (queue now v)) (interval-positive s) (rw (tree-burst-after s T v (L .notSink)) at (K .queues v L)))
-
-  -- the delay that is promised to a sensor's frames is at most the delay of line S
-  in-time : (o : ℕ) → routeDelay s T o ≤ sinkLine s (lines s) .delay .0
-  unfolding sinkFigures
-  in-time o = rw (sink-line-is s) (route-within-total s T o)
-
-  -- the load of line S is the one that enters the sink
-  sink-load : (x t : ℕ) → count (within x t) (now .received) * timingOf s .interval .0 ≤ sinkLine s (lines s) .burst .0 + sinkLine s (lines s) .rate .0 * t
-  unfolding networkOf treeFigures sinkFigures
-  sink-load x t =
-      rw (sink-line-is s)
-      (subst (λ (a : Load). count (within x t) (now .received) * timingOf s .interval .0 ≤ a .burst .0 + a .rate .0 * t) (entering-sink s T) (K .stretches x t))
-
-  -- the claim about networks, read with the printed figures
-  held : Held s (lines s) T N l u now
-  unfolding networkOf treeFigures
-  held = record {
-    queues = λ v L. omega (arith, queue-fits v L);
-    sinkQueue = K .sinkQueue;
-    underWay = λ v hv. All-imp (λ f h. omega (arith, h, in-time (f .sensor))) (K .underWay v hv);
-    received = All-imp (λ f h. omega (arith, h, in-time (f .sensor))) (K .received);
-    stretches = λ x t. omega (arith, sink-load x t);
-    noneLost = K .noneLost;
-  }
+-- the printed figures cover those of the network
+covered : (s : Settings) → Checked s → (T : Tree) → Within s T → Covered (rowTiming s) (siteOf s T) (printedOf s (lines s) T) (treeFigures s T)
+unfolding siteOf senses printedOf treeFigures sinkFigures linkFor left
+covered s C T W = record {
+  ownBurst = λ v h. rw (sensor-burst s) (own-burst (T .isRouter v));
+  ownRate = λ v h. rw (sensor-rate s) (counted s C (s .rate) (T .isRouter v));
+  buffer = λ v h ns n k.
+      rw (line-is s T W v h ns)
+      (buffer-holds (rowTiming s) (linkLoad s T v) n (interval-positive (radioOf s)) (rw (tree-burst-after s T v ns) at k));
+  delay = λ v h k. rw (sink-line-is s) (route-within-total s T v);
+  sinkBurst = rw (sink-line-is s) (omega (arith, ap (λ (a : Load). a .burst .0) (entering-sink s T)));
+  sinkRate = rw (sink-line-is s) (omega (arith, ap (λ (a : Load). a .rate .0) (entering-sink s T)));
+}
+  where
+    own-burst : (b : Bool) → cond (not b || eqb (s .own) 1) (s .burst) 0 * rowTiming s .interval .0
+        ≤ cond b (s .own * (s .burst * rowTiming s .interval .0)) (s .burst * rowTiming s .interval .0)
+    own-burst false = omega arith
+    own-burst true = by (s .own) (C .own)
+      where
+        by : (o : ℕ) → o ≤ 1 → cond (eqb o 1) (s .burst) 0 * rowTiming s .interval .0 ≤ o * (s .burst * rowTiming s .interval .0)
+        by zero h = omega arith
+        by (suc zero) h = omega arith
+        by (suc (suc o)) h = absurd (omega (arith, h))
 
 -- For all checked settings, with the lines of their plan: also where numbers 5 to 7 refuse the row, if there are windows for the tree.
 pub keeps : (s : Settings) → Checked s → Keeps s (lines s)
-keeps s C T W offset O l R state run u =
-    held s T W offset l u (state (suc u))
-    (every-run-is-kept (networkOf s (lines s) T offset) (treeFigures s T) (provisioned s C T W offset O) l (buckets s T C l R offset) state run u)
+keeps s C T W =
+    covered-is-kept (rowTiming s) (siteOf s T) (printedOf s (lines s) T) (treeFigures s T) (interval-positive (radioOf s)) (covered s C T W)
+    (λ offset O. provisioned s C T W offset O)

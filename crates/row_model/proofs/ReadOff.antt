@@ -10,10 +10,11 @@ use borrow.Author.Tests.{lt-ltb, eq-eqb, ne-eqb}
 use Rattle.network.specs.Counting.{join}
 use Rattle.links.specs.declared.Figures.{Figures}
 use Rattle.settings_model.specs.declared.Settings.{Settings}
-use Rattle.row_model.specs.declared.Kind.{Kind}
-use Rattle.row_model.specs.declared.Kind.the-variants.{EndNode, Upward, Downward, Sink}
-use Rattle.row_model.specs.declared.Line.{Line}
-use Rattle.row_model.specs.Lines.{endLink, upLink, downLink, sinkFigures, line, endLines, upLines, downLines, lines, letter, sameKind, figuresAt}
+use Rattle.plan_model.specs.declared.Kind.{Kind}
+use Rattle.plan_model.specs.declared.Kind.the-variants.{EndNode, Upward, Downward, Sink}
+use Rattle.plan_model.specs.declared.Line.{Line}
+use Rattle.row_model.specs.Lines.{endLink, upLink, downLink, sinkFigures, endLines, upLines, downLines, lines, figuresAt}
+use Rattle.plan_model.specs.Lines.{line, letter, sameKind}
 
 -- the figures of the first line of that kind and depth, or z where there is none
 unfoldable firstOr : Kind → ℕ → Figures → List Line → Figures

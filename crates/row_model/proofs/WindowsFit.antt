@@ -10,13 +10,16 @@ use Rattle.measure.specs.declared.Rate.{Rate}
 use Rattle.superframe_model.proofs.OrderLaws.{window-fits}
 use Rattle.links.specs.Link.{slotsOf}
 use Rattle.settings_model.specs.declared.Settings.{Settings}
-use Rattle.row_model.specs.Times.{timingOf, routersBelow, reservationsAt, reservableAt}
+use Rattle.row_model.specs.Times.{rowTiming, routersBelow, reservationsAt, reservableAt}
 use Rattle.row_model.specs.Loads.{sensor, upward, downward}
 use Rattle.row_model.specs.Checks.{slotsNeeded, usedBelow, usedOffPath, usedOnPath}
 use Rattle.row_model.specs.Lines.{lines}
-use Rattle.row_model.specs.Tree.{Tree, Within, Windows}
+use Rattle.row_model.specs.Tree.{Tree, Within}
+use Rattle.row_model.specs.Promise.{siteOf, printedOf, Windows}
+use Rattle.promise_model.specs.Promise as promise
 use Rattle.row_model.specs.Laws.{Plannable}
 use Rattle.row_model.proofs.NodeLoads.{linkLoad, Sort, endNode, upRouter, downRouter, sort, line-slots}
+use Rattle.plan_model.specs.Times.{timingOf}
 
 -- one of n alike is no more than all of them
 one-of : (n k m : ℕ) → 0 < n → n * k ≤ m → k ≤ m
@@ -57,15 +60,15 @@ module _ (s : Settings) (P : Plannable s) where
 
   -- and every window that starts with the interval fits it
   abbrev Fits : Rate → Type 0
-  Fits ρ = 0 + slotsOf (timingOf s) ρ .0 * timingOf s .slot .0 ≤ timingOf s .interval .0
+  Fits ρ = 0 + slotsOf (rowTiming s) ρ .0 * rowTiming s .slot .0 ≤ rowTiming s .interval .0
 
   fits : (ρ : Rate) (i : ℕ) → slotsNeeded s ρ ≤ reservableAt s i .0 → Fits ρ
   unfolding slotsNeeded timingOf reservableAt
-  fits ρ i h = omega (arith, window-fits (s .so) (s .bo) (reservationsAt s i) (slotsOf (timingOf s) ρ) (P .checked .orders) h)
+  fits ρ i h = omega (arith, window-fits (s .so) (s .bo) (reservationsAt s i) (slotsOf (rowTiming s) ρ) (P .checked .radio .orders) h)
 
   pub windows-fit : (T : Tree) → Within s T → Windows s (lines s) T (λ v. 0)
-  unfolding linkLoad
-  windows-fit T W v hv ns = rw (line-slots s T W v hv ns) (by (sort s T W v hv ns))
+  unfolding promise.networkOf siteOf printedOf linkLoad
+  windows-fit T W v L = rw (line-slots s T W v (L .node) (L .notSink)) (by (sort s T W v (L .node) (L .notSink)))
     where
       by : Sort s T v → Fits (linkLoad s T v .rate)
       by (endNode x n) = rw x (fits (sensor s .rate) 0 (end-slots n))

@@ -8,21 +8,24 @@ use native.Mathlib.Omega.{arith}
 use lib.Dec.{eqb, lit<, lit≤}
 use Rattle.measure.specs.Measures.{arrivals}
 use Rattle.network.specs.Counting.{total, bit, below, keep, none, each}
-use Rattle.network.specs.Model.{queue}
+use Rattle.network.specs.Model.{Network, queue}
 use Rattle.network.specs.Readings.{made}
+use Rattle.network.specs.Loads.{Linked}
 use Rattle.network.specs.Run.{deliver, feeds, ends, arrived, endExchanges, fresh, makeReadings}
 use Rattle.network.specs.Oracle.{isStart, idle, behind, takeOldest, serve, begun, serveAll, symbol, run}
-use Rattle.network.specs.Examples.{reading, first, written, received}
+use Rattle.network.specs.Examples.{reading, first, written, received, lengthsAt, soonFrom}
 use Rattle.network.proofs.Sums.{total-ap, total-add, total-mono}
 use Rattle.network.proofs.Oracles.{every-choice-is-a-run}
 use Rattle.row_model.specs.Checks.{routers}
 use Rattle.row_model.specs.Lines.{lines}
-use Rattle.row_model.specs.Tree.{isChild, childRouters, endNodes, Within, ancestor, sinkBelow, towards, lineOf, networkOf, Windows, Sensor, Readings}
-use Rattle.row_model.specs.Promise.{sinkLine}
-use Rattle.row_model.specs.Witness.{lossySettings, settings, columns, lengthsAt, row, tree, offsets, network, readings, Witnessed, smallSettings, smallRow, smallTree, smallNetwork, soonFrom, fullReadings, Filled, lossyRow, lossyNetwork, lossyReadings, Lossy, deepRow, fullSlots, tightRow, OnThePath, allSlots, allSuperframes, JustMet, longBeacon, ownBeacons, OwnCounts}
+use Rattle.row_model.specs.Tree.{isChild, childRouters, endNodes, Within, ancestor, sinkBelow, towards, lineOf}
+use Rattle.row_model.specs.Promise.{networkOf, Windows, Readings, sinkLine, senses, siteOf, printedOf}
+use Rattle.row_model.specs.Witness.{lossySettings, settings, row, tree, offsets, network, readings, Witnessed, smallSettings, smallRow, smallTree, smallNetwork, fullReadings, Filled, lossyRow, lossyNetwork, lossyReadings, Lossy, deepRow, fullSlots, tightRow, OnThePath, allSlots, allSuperframes, JustMet, longBeacon, ownBeacons, OwnCounts}
+use Rattle.plan_model.specs.Lines.{columns}
 use Rattle.row_model.proofs.Computing.{plans}
 use Rattle.row_model.proofs.LawsHold.{every-plan-keeps}
-use Rattle.row_model.proofs.Stretches.{stretch, stretch-le, apart}
+use Rattle.network.proofs.Stretches.{stretch, stretch-le, soon-makes, soon-none}
+use Rattle.promise_model.specs.Promise as promise
 
 -- ---- what is computed with
 
@@ -32,7 +35,7 @@ unfolding plans lossySettings settings columns row smallSettings smallRow lossyR
 rows = Unit
 
 runs : Type 0
-unfolding rows bit below isChild ancestor sinkBelow towards lineOf networkOf tree offsets network readings reading received written first run symbol serveAll begun serve takeOldest behind idle isStart makeReadings fresh endExchanges Rattle.network.specs.Run.arrivals arrived ends feeds deliver made queue keep lengthsAt sinkLine smallTree smallNetwork soonFrom fullReadings lossyNetwork lossyReadings
+unfolding rows bit below isChild ancestor sinkBelow towards lineOf promise.networkOf siteOf printedOf tree offsets network readings reading received written first run symbol serveAll begun serve takeOldest behind idle isStart makeReadings fresh endExchanges Rattle.network.specs.Run.arrivals arrived ends feeds deliver made queue keep lengthsAt sinkLine smallTree smallNetwork soonFrom fullReadings lossyNetwork lossyReadings
 runs = Unit
 
 -- ---- the tree
@@ -66,9 +69,13 @@ tree-within = record {
     end : {A : Type 0} → false ≡ true → A
     end r = absurd (false≢true r)
 
+tree-linked : (P : ℕ → Type 0) → P 0 → P 1 → P 2 → P 3 → P 4 → P 5 → (v : ℕ) → Linked network v → P v
+unfolding promise.networkOf siteOf network tree
+tree-linked P a b c d e f v L = six P a b c d e f v (L .node)
+
 tree-windows : Windows row (lines row) tree offsets
 unfolding runs
-tree-windows = six _ (λ n. lit≤ tt) (λ n. lit≤ tt) (λ n. lit≤ tt) (λ n. lit≤ tt) (λ n. lit≤ tt) (λ n. lit≤ tt)
+tree-windows = tree-linked _ (lit≤ tt) (lit≤ tt) (lit≤ tt) (lit≤ tt) (lit≤ tt) (lit≤ tt)
 
 -- ---- the tree's readings
 
@@ -84,27 +91,33 @@ tree-made t v h = by (eqb 0 t)
     by true = six (λ v. of-each true v ≤ 1) (lit≤ tt) (lit≤ tt) (lit≤ tt) (lit≤ tt) (lit≤ tt) (lit≤ tt) v h
     by false = lit≤ tt
 
--- every node senses
-all-sense : (v : ℕ) → v < 6 → Sensor row tree v
-unfolding rows tree
-all-sense v h = record { isNode = h; senses = λ r. refl }
-
 tree-readings : Readings row tree readings
-unfolding rows tree readings reading stretch
+unfolding rows siteOf senses tree readings reading stretch
 tree-readings = record {
-  sensors = each (all-sense 5 (lit< tt)) (each (all-sense 2 (lit< tt)) (each (all-sense 4 (lit< tt)) (each (all-sense 1 (lit< tt)) none)));
-  bucket = λ v x t S. omega (arith, total-mono (λ i. made readings (x + i) v) (λ i. bit (eqb 0 (x + i))) t (λ i h. tree-made (x + i) v (S .isNode)), stretch-le 0 x t);
+  sensors = each (lit< tt) (each (lit< tt) (each (lit< tt) (each (lit< tt) none)));
+  bucket = λ v x n h. six (λ v. Bucket v x n) (few x n 0 (lit< tt)) (few x n 1 (lit< tt)) (few x n 2 (lit< tt)) (few x n 3 (lit< tt)) (few x n 4 (lit< tt)) (few x n 5 (lit< tt)) v h;
 }
+  where
+    Bucket : ℕ → ℕ → ℕ → Type 0
+    Bucket v x n = total (λ i. made readings (x + i) v) n * 3840 ≤ siteOf row tree .burst v * 3840 + siteOf row tree .rate v * n
+
+    few : (x n v : ℕ) → v < 6 → total (λ i. made readings (x + i) v) n * 3840 ≤ 1 * 3840 + 1 * n
+    few x n v h = omega (arith, total-mono (λ i. made readings (x + i) v) (λ i. bit (eqb 0 (x + i))) n (λ i k. tree-made (x + i) v h), stretch-le 0 x n)
+
+six-nodes : siteOf row tree .nodes ≡ 6
+unfolding siteOf tree
+six-nodes = refl
 
 -- two frames of a sensor in symbol 0 are too many
-too-many : (v : ℕ) → made (reading 0 v 1 ∷ readings) 0 v ≡ 2 → v < 6 → Readings row tree (reading 0 v 1 ∷ readings) → ⊥
+too-many : (v : ℕ) → made (reading 0 v 1 ∷ readings) 0 v ≡ 2 → v < 6 → siteOf row tree .burst v ≡ 1 → siteOf row tree .rate v ≡ 1
+    → Readings row tree (reading 0 v 1 ∷ readings) → ⊥
 unfolding rows
-too-many v e h R =
-    let k : (0 + made (reading 0 v 1 ∷ readings) 0 v) * 3840 ≤ 1 * 3840 + 1 * 1 = R .bucket v 0 1 (all-sense v h) in
+too-many v e h b r R =
+    let k : (0 + made (reading 0 v 1 ∷ readings) 0 v) * 3840 ≤ 1 * 3840 + 1 * 1 = rw (b, r) at (R .bucket v 0 1 (rw six-nodes h)) in
     omega (arith, ap (λ (n : ℕ). n * 3840) e)
 
 pub witnessed : Witnessed
-unfolding runs
+unfolding runs senses
 witnessed = record {
   planned = refl;
   printed = refl;
@@ -114,7 +127,7 @@ witnessed = record {
   windowsFit = tree-windows;
   lastWindow = refl;
   keepBuckets = tree-readings;
-  atTheLimit = each (too-many 5 refl (lit< tt)) (each (too-many 2 refl (lit< tt)) (each (too-many 4 refl (lit< tt)) (each (too-many 1 refl (lit< tt)) none)));
+  atTheLimit = each (too-many 5 refl (lit< tt) refl refl) (each (too-many 2 refl (lit< tt) refl refl) (each (too-many 4 refl (lit< tt) refl refl) (each (too-many 1 refl (lit< tt) refl refl) none)));
   arrived = refl;
   inTime = each (lit≤ tt) (each (lit≤ tt) (each (lit≤ tt) (each (lit≤ tt) none)));
   routersQueue = refl;
@@ -147,48 +160,24 @@ small-within head payload ack loss = record {
   sinkDepth = refl;
 }
 
+small-linked : (P : ℕ → Type 0) → P 0 → P 1 → (N : Network) → N .nodes ≡ 2 → (v : ℕ) → Linked N v → P v
+small-linked P a b N e v L = two P a b v (omega (arith, L .node))
+
 small-windows : Windows smallRow (lines smallRow) smallTree (λ v. 0)
 unfolding runs
-small-windows = two _ (λ n. lit≤ tt) (λ n. lit≤ tt)
-
-pub soon-made : (a t : ℕ) → made (soonFrom a) t 1 ≡ bit (eqb a t) + (bit (eqb (a + 479) t) + bit (eqb (a + 959) t))
-unfolding made soonFrom reading bit
-soon-made a t = omega (arith, one (eqb a t), one (eqb (a + 479) t), one (eqb (a + 959) t))
-  where
-    one : (b : Bool) → cond {A = ℕ} (b && true) 1 0 ≡ bit b
-    one true = refl
-    one false = refl
-
-pub soon-few : (a x t : ℕ) → (stretch a x t + (stretch (a + 479) x t + stretch (a + 959) x t)) * 960 ≤ 960 + 2 * t
-soon-few a x t = by (decLe 960 t) (decLe 480 t)
-  where
-    by : Dec (960 ≤ t) → Dec (480 ≤ t) → (stretch a x t + (stretch (a + 479) x t + stretch (a + 959) x t)) * 960 ≤ 960 + 2 * t
-    by (yes h) k = omega (arith, stretch-le a x t, stretch-le (a + 479) x t, stretch-le (a + 959) x t)
-    by (no h) (yes k) = omega (arith, apart a (a + 959) x t (omega arith), stretch-le (a + 479) x t)
-    by (no h) (no k) = omega (arith, apart a (a + 479) x t (omega arith), apart (a + 479) (a + 959) x t (omega arith), apart a (a + 959) x t (omega arith))
+small-windows = small-linked _ (lit≤ tt) (lit≤ tt) smallNetwork refl
 
 -- the end node senses, and the root does not
 pub small-readings : (head payload ack loss a : ℕ) → Readings (smallSettings head payload ack loss) smallTree (soonFrom a)
-unfolding rows smallTree soonFrom reading stretch
+unfolding rows siteOf senses smallTree soonFrom reading
 small-readings head payload ack loss a = record {
-  sensors = each end-node (each end-node (each end-node none));
-  bucket = λ v x t S. two (λ v. Sensor (smallSettings head payload ack loss) smallTree v → total (λ i. made (soonFrom a) (x + i) v) t * 960 ≤ 960 + 2 * t) root (λ e. node x t) v (S .isNode) S;
+  sensors = each (lit< tt) (each (lit< tt) (each (lit< tt) none));
+  bucket = λ v x n h. two (λ v. Bucket v x n) (omega (arith, soon-none a x n)) (omega (arith, soon-makes a x n)) v h;
 }
   where
-    end-node : Sensor (smallSettings head payload ack loss) smallTree 1
-    end-node = record { isNode = lit< tt; senses = λ r. absurd (false≢true r) }
-
-    root : {A : Type 0} → Sensor (smallSettings head payload ack loss) smallTree 0 → A
-    root S = absurd (omega (arith, S .senses refl))
-
-    node : (x t : ℕ) → total (λ i. made (soonFrom a) (x + i) 1) t * 960 ≤ 960 + 2 * t
-    node x t = omega (
-      arith,
-      soon-few a x t,
-      total-ap (λ i. made (soonFrom a) (x + i) 1) (λ i. bit (eqb a (x + i)) + (bit (eqb (a + 479) (x + i)) + bit (eqb (a + 959) (x + i)))) t (λ i h. soon-made a (x + i)),
-      total-add (λ i. bit (eqb a (x + i))) (λ i. bit (eqb (a + 479) (x + i)) + bit (eqb (a + 959) (x + i))) t,
-      total-add (λ i. bit (eqb (a + 479) (x + i))) (λ i. bit (eqb (a + 959) (x + i))) t,
-    )
+    Bucket : ℕ → ℕ → ℕ → Type 0
+    Bucket v x n = total (λ i. made (soonFrom a) (x + i) v) n * 960
+        ≤ siteOf (smallSettings head payload ack loss) smallTree .burst v * 960 + siteOf (smallSettings head payload ack loss) smallTree .rate v * n
 
 pub filled : Filled
 unfolding runs
@@ -206,7 +195,7 @@ filled = record {
 
 lossy-windows : Windows lossyRow (lines lossyRow) smallTree (λ v. 0)
 unfolding runs
-lossy-windows = two _ (λ n. lit≤ tt) (λ n. lit≤ tt)
+lossy-windows = small-linked _ (lit≤ tt) (lit≤ tt) lossyNetwork refl
 
 pub lossy : Lossy
 unfolding runs

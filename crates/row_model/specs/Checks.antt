@@ -12,8 +12,9 @@ use Rattle.measure.specs.Measures.{slots}
 use Rattle.network.specs.Counting.{total}
 use Rattle.links.specs.Link.{slotsOf}
 use Rattle.settings_model.specs.declared.Settings.{Settings}
-use Rattle.settings_model.specs.Checks.{checks}
-use Rattle.row_model.specs.Times.{timingOf, routersBelow, reservableAt}
+use Rattle.settings_model.specs.Checks.{radioOf, checks}
+use Rattle.plan_model.specs.Times.{superframes}
+use Rattle.row_model.specs.Times.{rowTiming, routersBelow, reservableAt}
 use Rattle.row_model.specs.Loads.{sensor, upward, downward}
 
 -- ---- number 5
@@ -28,19 +29,15 @@ reservations s = condition (ltb 7 (s .ne + s .nr)) (Reservations (s .ne) (s .nr)
 unfoldable pub routers : Settings → ℕ
 routers s = total (λ j. s .nr ^ j) (suc (s .h))
 
--- the superframes that fit a beacon interval: 2^(BO − SO)
-unfoldable pub superframes : Settings → ℕ
-superframes s = 2 ^ (s .bo - s .so)
-
 -- "routers .. more than 2^(BO − SO)"
 unfoldable pub routersFit : Settings → List (Condition Refusal)
-routersFit s = condition (ltb (superframes s) (routers s)) (Superframes (routers s) (superframes s)) ∷ []
+routersFit s = condition (ltb (superframes (radioOf s)) (routers s)) (Superframes (routers s) (superframes (radioOf s))) ∷ []
 
 -- ---- number 7
 
 -- the slots of the reservation for a rate
 unfoldable pub slotsNeeded : Settings → Rate → ℕ
-slotsNeeded s ρ = slotsOf (timingOf s) ρ .0
+slotsNeeded s ρ = slotsOf (rowTiming s) ρ .0
 
 -- what NE end nodes and n child routers at depth i + 1 use of their router's superframe
 unfoldable pub usedBelow : Settings → ℕ → ℕ → ℕ

@@ -8,17 +8,20 @@ use Rattle.superframe_model.specs.Reservation.{Smallest}
 use Rattle.network.specs.Counting.{All}
 use Rattle.settings_model.specs.declared.Settings.{Settings}
 use Rattle.settings_model.specs.Laws.{Checked}
-use Rattle.row_model.specs.declared.Kind.the-variants.{Sink}
-use Rattle.row_model.specs.declared.Line.{Line}
-use Rattle.row_model.specs.Times.{timingOf, reservableAt}
+use Rattle.plan_model.specs.declared.Kind.the-variants.{Sink}
+use Rattle.plan_model.specs.declared.Line.{Line}
+use Rattle.row_model.specs.Times.{rowTiming, reservableAt}
 use Rattle.row_model.specs.Loads.{upward, downward, atSink}
-use Rattle.row_model.specs.Checks.{routers, superframes, usedOffPath, usedOnPath}
-use Rattle.row_model.specs.Lines.{line, sinkFigures, lines, sameKind}
+use Rattle.row_model.specs.Checks.{routers, usedOffPath, usedOnPath}
+use Rattle.plan_model.specs.Times.{superframes}
+use Rattle.plan_model.specs.Lines.{line, sameKind}
+use Rattle.row_model.specs.Lines.{sinkFigures, lines}
 use Rattle.refusals.specs.Outcome.{Planned}
 use Rattle.row_model.specs.Outcome.{outcomeOf}
 use Rattle.row_model.specs.Bounds.{Sound, Bounded}
-use Rattle.row_model.specs.Tree.{Tree, Within, Windows}
-use Rattle.row_model.specs.Promise.{Keeps}
+use Rattle.row_model.specs.Tree.{Tree, Within}
+use Rattle.row_model.specs.Promise.{Windows, Keeps}
+use Rattle.settings_model.specs.Checks.{radioOf}
 
 -- ---- demand 2
 
@@ -29,7 +32,7 @@ pub record Plannable (s : Settings) : Type 0 where
   -- number 5: at most 7 reservations in a superframe
   pub reservations : s .ne + s .nr ≤ 7
   -- number 6: each router's superframe fits the interval beside the others
-  pub routers : routers s ≤ superframes s
+  pub routers : routers s ≤ superframes (radioOf s)
   -- number 7: at each depth the slots used may be reserved there; the root is off the sink's path only where it is the sink
   pub offPath : (i : ℕ) → i ≤ s .h → (i ≡ 0 → s .sink ≡ 0) → usedOffPath s i .0 ≤ reservableAt s i .0
   pub onPath : (i : ℕ) → i < s .sink → usedOnPath s i .0 ≤ reservableAt s i .0
@@ -41,7 +44,7 @@ PlannedExactly = (s : Settings) (p : List Line) → (outcomeOf s ≡ Planned p) 
 -- "no reservation has a slot more than its rate needs": on every line of a link SLOTS is the smallest count that holds RATE
 abbrev pub NoSlotTooMany : Type 0
 NoSlotTooMany = (s : Settings) (p : List Line) → outcomeOf s ≡ Planned p
-    → All (λ l. sameKind (l .kind) Sink ≡ false → Smallest (l .figures .rate) (timingOf s .slot) (timingOf s .exchange) (l .figures .slots)) p
+    → All (λ l. sameKind (l .kind) Sink ≡ false → Smallest (l .figures .rate) (rowTiming s .slot) (rowTiming s .exchange) (l .figures .slots)) p
 
 -- the bound on every load: none of a row that keeps numbers 3 to 6 has a rate of 2^30 or a burst of 2^58
 pub record LoadsBounded (s : Settings) : Type 0 where

@@ -1,24 +1,25 @@
 -- The lines of the plan (document 01, 'The printed plan'). Assumes nothing: these are definitions.
 use Prim.Native.Nat.{ℕ, zero, suc, _+_}
-use mathlib.Core.Bool.{Bool, cond, _&&_}
+use mathlib.Core.Bool.{cond, _&&_}
 use mathlib.Core.List.{List, [], _∷_, _++_}
 use lib.Dec.{eqb, ltb}
 use Rattle.measure.specs.declared.Symbols.{Symbols}
-use Rattle.measure.specs.Measures.{symbols, slots, frames, wholeFrames, frameSymbols, perInterval}
+use Rattle.measure.specs.Measures.{symbols, slots, frames, wholeFrames}
 use Rattle.links.specs.declared.Load.{Load}
 use Rattle.links.specs.declared.Figures.{Figures}
 use Rattle.links.specs.Link.{figuresOf}
 use Rattle.network.specs.Counting.{total, join}
 use Rattle.settings_model.specs.declared.Settings.{Settings}
-use Rattle.row_model.specs.declared.Kind.{Kind}
-use Rattle.row_model.specs.declared.Kind.the-variants.{EndNode, Upward, Downward, Sink}
-use Rattle.row_model.specs.declared.Line.{Line}
-use Rattle.row_model.specs.Times.{timingOf}
+use Rattle.plan_model.specs.Lines.{line, sameKind, noFigures}
+use Rattle.plan_model.specs.declared.Kind.{Kind}
+use Rattle.plan_model.specs.declared.Kind.the-variants.{EndNode, Upward, Downward, Sink}
+use Rattle.plan_model.specs.declared.Line.{Line}
+use Rattle.row_model.specs.Times.{rowTiming}
 use Rattle.row_model.specs.Loads.{sensor, upward, downward, atSink}
 
 -- the figures of the link that a load enters
 unfoldable pub linkFor : Settings → Load → Figures
-linkFor s a = figuresOf (timingOf s) a
+linkFor s a = figuresOf (rowTiming s) a
 
 -- "E is an end node's link", "U the upward link of a router at that depth", "D the downward link from that depth"
 unfoldable pub endLink : Settings → Figures
@@ -46,19 +47,9 @@ sinkFigures s = record {
   slots = slots 0;
   frames = frames 0;
   latency = symbols 0;
-  buffer = wholeFrames (atSink s .burst) (timingOf s .interval);
+  buffer = wholeFrames (atSink s .burst) (rowTiming s .interval);
   delay = totalDelay s;
 }
-
--- KIND's letter
-unfoldable pub letter : Kind → ℕ
-letter EndNode = 69
-letter Upward = 85
-letter Downward = 68
-letter Sink = 83
-
-abbrev pub line : Kind → ℕ → Figures → Line
-line k d f = record { kind = k; depth = d; figures = f }
 
 -- "DEPTH always 0; no such line if NE = 0"
 unfoldable pub endLines : Settings → List Line
@@ -79,23 +70,7 @@ lines s = endLines s ++ upLines s (s .h) ++ downLines s (s .sink) ++ line Sink (
 
 -- ---- reading the lines
 
--- two kinds are the same where their letters are
-unfoldable pub sameKind : Kind → Kind → Bool
-sameKind a b = eqb (letter a) (letter b)
-
--- the figures of a line that is not there
-unfoldable pub none : Figures
-none = record {
-  rate = perInterval 0;
-  burst = frameSymbols 0;
-  slots = slots 0;
-  frames = frames 0;
-  latency = symbols 0;
-  buffer = frames 0;
-  delay = symbols 0;
-}
-
 -- the figures of the first line of that kind and depth
 unfoldable pub figuresAt : Kind → ℕ → List Line → Figures
-figuresAt k d [] = none
+figuresAt k d [] = noFigures
 figuresAt k d (l ∷ ls) = cond (sameKind (l .kind) k && eqb (l .depth) d) (l .figures) (figuresAt k d ls)

@@ -5,15 +5,15 @@ use Rattle.measure.specs.Measures.{frames, perInterval, burst}
 use Rattle.links.specs.declared.Load.{Load}
 use Rattle.links.specs.Link.{plus, times, after}
 use Rattle.settings_model.specs.declared.Settings.{Settings}
-use Rattle.row_model.specs.Times.{timingOf}
+use Rattle.row_model.specs.Times.{rowTiming}
 
 -- "End node: ρ = RATE, β = BURST × BI"; the load of every sensor
 unfoldable pub sensor : Settings → Load
-sensor s = record { rate = perInterval (s .rate); burst = burst (frames (s .burst)) (timingOf s .interval) }
+sensor s = record { rate = perInterval (s .rate); burst = burst (frames (s .burst)) (rowTiming s .interval) }
 
 -- a load behind the link that it entered
 unfoldable pub left : Settings → Load → Load
-left s a = after (timingOf s) a
+left s a = after (rowTiming s) a
 
 -- what enters every router: "OWN times the sensor load, NE loads that left an end node"
 unfoldable pub near : Settings → Load

@@ -4,7 +4,7 @@ use mathlib.Core.List.{List}
 use Rattle.refusals.specs.Conditions.{firstBroken}
 use Rattle.refusals.specs.Outcome.{Outcome, Planned, Refused}
 use Rattle.settings_model.specs.declared.Settings.{Settings}
-use Rattle.row_model.specs.declared.Line.{Line}
+use Rattle.plan_model.specs.declared.Line.{Line}
 use Rattle.row_model.specs.Checks.{conditions}
 use Rattle.row_model.specs.Lines.{lines}
 

@@ -2,21 +2,17 @@
 -- these are definitions.
 use Prim.Native.Nat.{ℕ, _+_}
 use mathlib.Core.Bool.{cond}
-use lib.Dec.{eqb, ltb}
+use lib.Dec.{ltb}
 use Rattle.measure.specs.declared.Slots.{Slots}
-use Rattle.superframe_model.specs.Orders.{beaconInterval, slot, reservable}
-use Rattle.superframe_model.specs.Loss.{lossyExchange}
+use Rattle.superframe_model.specs.Orders.{reservable}
 use Rattle.links.specs.declared.Timing.{Timing}
 use Rattle.settings_model.specs.declared.Settings.{Settings}
+use Rattle.settings_model.specs.Checks.{radioOf}
+use Rattle.plan_model.specs.Times.{timingOf}
 
--- BI of BO, S of SO, and the exchange of M = HEAD + DATA octets, acknowledged where ACK is 1, of which LOSS tries may fail: X + LOSS × (X + 20).
--- Document 01's X is this one wherever a row is planned or run: "all that was built on X follows" (document 02, E5)
-unfoldable pub timingOf : Settings → Timing
-timingOf s = record {
-  interval = beaconInterval (s .bo);
-  slot = slot (s .so);
-  exchange = lossyExchange (s .head + s .payload) (eqb (s .ack) 1) (s .loss);
-}
+-- BI, S and X of a row
+abbrev pub rowTiming : Settings → Timing
+rowTiming s = timingOf (radioOf s)
 
 -- "at most NR child routers, none at depth H": as many as the checks count for a router at depth i
 unfoldable pub routersBelow : Settings → ℕ → ℕ

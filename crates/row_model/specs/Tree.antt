@@ -3,17 +3,13 @@ use mathlib.Core.Path.{_≡_}
 use mathlib.Core.Logic.{_≢_}
 use mathlib.Core.Bool.{Bool, true, cond, not, _&&_}
 use mathlib.Core.List.{List}
-use Prim.Native.Nat.{ℕ, zero, suc, _+_, _-_, _*_, _≤_, _<_}
+use Prim.Native.Nat.{ℕ, zero, suc, _-_, _≤_, _<_}
 use lib.Dec.{eqb, ltb}
-use Rattle.superframe_model.specs.Reservation.{framesIn}
-use Rattle.network.specs.Counting.{total, bit, All}
-use Rattle.network.specs.Model.{Network}
-use Rattle.network.specs.Readings.{Reading, made}
+use Rattle.network.specs.Counting.{total, bit}
 use Rattle.links.specs.declared.Figures.{Figures}
 use Rattle.settings_model.specs.declared.Settings.{Settings}
-use Rattle.row_model.specs.declared.Kind.the-variants.{EndNode, Upward, Downward}
-use Rattle.row_model.specs.declared.Line.{Line}
-use Rattle.row_model.specs.Times.{timingOf}
+use Rattle.plan_model.specs.declared.Kind.the-variants.{EndNode, Upward, Downward}
+use Rattle.plan_model.specs.declared.Line.{Line}
 use Rattle.row_model.specs.Lines.{figuresAt}
 
 -- ---- trees
@@ -77,36 +73,3 @@ unfoldable pub lineOf : Tree → List Line → ℕ → Figures
 lineOf T p v = cond (T .isRouter v)
     (cond (sinkBelow T v) (figuresAt Downward (T .depth v) p) (figuresAt Upward (T .depth v) p))
     (figuresAt EndNode 0 p)
-
--- ---- the network that a tree, the printed lines and the windows' offsets make
-
--- m is computed here from SLOTS, S and X; no other figure of the plan goes into the run. X is the exchange with LOSS (document 02, E5): it holds
--- up to LOSS failed tries of its frame and one that succeeds (`HoldsTries` of superframe_model's specs/Loss), and "a frame counts as received when its
--- exchange ends"
-unfoldable pub networkOf : Settings → List Line → Tree → (ℕ → ℕ) → Network
-networkOf s p T offset = record {
-  nodes = T .nodes;
-  sink = T .sink;
-  next = towards T;
-  interval = timingOf s .interval .0;
-  exchange = timingOf s .exchange .0;
-  offset = offset;
-  holds = λ v. framesIn (lineOf T p v .slots) (timingOf s .slot) (timingOf s .exchange) .0;
-}
-
--- "a window lies whole within every interval", and nothing else is asked of offsets
-abbrev pub Windows : Settings → List Line → Tree → (ℕ → ℕ) → Type 0
-Windows s p T offset = (v : ℕ) → v < T .nodes → v ≢ T .sink → offset v + lineOf T p v .slots .0 * timingOf s .slot .0 ≤ timingOf s .interval .0
-
--- ---- readings
-
--- "Every end node senses; routers sense too where OWN is 1."
-pub record Sensor (s : Settings) (T : Tree) (v : ℕ) : Type 0 where
-  pub isNode : v < T .nodes
-  pub senses : T .isRouter v ≡ true → s .own ≡ 1
-
--- Readings of sensors of the tree, each within its token bucket: "in any t consecutive symbols, at most a frames with a × BI ≤
--- BURST × BI + RATE × t"
-pub record Readings (s : Settings) (T : Tree) (l : List Reading) : Type 0 where
-  pub sensors : All (λ r. Sensor s T (r .sensor)) l
-  pub bucket : (v x t : ℕ) → Sensor s T v → total (λ i. made l (x + i) v) t * timingOf s .interval .0 ≤ s .burst * timingOf s .interval .0 + s .rate * t

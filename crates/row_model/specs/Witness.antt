@@ -9,18 +9,21 @@ use Rattle.network.specs.Counting.{All}
 use Rattle.network.specs.Model.{Network, queue}
 use Rattle.network.specs.Readings.{Reading}
 use Rattle.network.specs.Oracle.{run}
-use Rattle.network.specs.Examples.{reading, first, received}
+use Rattle.network.specs.Examples.{reading, first, received, lengthsAt, soonFrom}
 use Rattle.measure.specs.Measures.{slots}
 use Rattle.refusals.specs.declared.Refusal.the-variants.{SlotsUsed}
 use Rattle.settings_model.specs.declared.Settings.{Settings}
-use Rattle.row_model.specs.declared.Line.{Line}
-use Rattle.row_model.specs.Times.{timingOf, reservableAt}
-use Rattle.row_model.specs.Checks.{routers, superframes, usedOffPath, usedOnPath}
-use Rattle.row_model.specs.Lines.{letter, lines}
+use Rattle.settings_model.specs.Checks.{radioOf}
+use Rattle.plan_model.specs.declared.Line.{Line}
+use Rattle.row_model.specs.Times.{rowTiming, reservableAt}
+use Rattle.row_model.specs.Checks.{routers, usedOffPath, usedOnPath}
+use Rattle.plan_model.specs.Times.{superframes}
+use Rattle.plan_model.specs.Lines.{columns}
+use Rattle.row_model.specs.Lines.{lines}
 use Rattle.refusals.specs.Outcome.{Planned, Refused}
 use Rattle.row_model.specs.Outcome.{outcomeOf}
-use Rattle.row_model.specs.Tree.{Tree, Within, lineOf, networkOf, Windows, Readings}
-use Rattle.row_model.specs.Promise.{sinkLine, Held}
+use Rattle.row_model.specs.Tree.{Tree, Within, lineOf}
+use Rattle.row_model.specs.Promise.{networkOf, Windows, Readings, sinkLine, Held}
 
 -- settings in the columns' order
 unfoldable pub lossySettings : ℕ → ℕ → ℕ → ℕ → ℕ → ℕ → ℕ → ℕ → ℕ → ℕ → ℕ → ℕ → ℕ → Settings
@@ -43,16 +46,6 @@ lossySettings bo so h nr ne own sink burst rate head payload ack loss = record {
 -- those of a row of twelve values
 unfoldable pub settings : ℕ → ℕ → ℕ → ℕ → ℕ → ℕ → ℕ → ℕ → ℕ → ℕ → ℕ → ℕ → Settings
 settings bo so h nr ne own sink burst rate head payload ack = lossySettings bo so h nr ne own sink burst rate head payload ack 0
-
--- a line's letter and its eight numbers
-unfoldable pub columns : Line → List ℕ
-columns l =
-    letter (l .kind) ∷ l .depth ∷ l .figures .rate .0 ∷ l .figures .burst .0 ∷ l .figures .slots .0 ∷ l .figures .frames .0
-    ∷ l .figures .latency .0 ∷ l .figures .buffer .0 ∷ l .figures .delay .0 ∷ []
-
--- the lengths of node v's queue at the end of some symbols
-unfoldable pub lengthsAt : Network → List Reading → ℕ → List ℕ → List ℕ
-lengthsAt N l v ts = map (λ t. length (queue (run N l first (suc t)) v)) ts
 
 -- ---- a tree with its sink below the root, in which every node senses
 
@@ -100,7 +93,7 @@ pub record Witnessed : Type 0 where
   pub exchanges : map (network .holds) (0 ∷ 3 ∷ 5 ∷ 2 ∷ 4 ∷ []) ≡ 1 ∷ 1 ∷ 1 ∷ 3 ∷ 5 ∷ []
   -- all windows fit the interval, and node 3's ends with it
   pub windowsFit : Windows row (lines row) tree offsets
-  pub lastWindow : offsets 3 + lineOf tree (lines row) 3 .slots .0 * timingOf row .slot .0 ≡ timingOf row .interval .0
+  pub lastWindow : offsets 3 + lineOf tree (lines row) 3 .slots .0 * rowTiming row .slot .0 ≡ rowTiming row .interval .0
   -- the readings are of sensors and keep their token buckets, but would not with one frame more of any of them in the same symbol
   pub keepBuckets : Readings row tree readings
   pub atTheLimit : All (λ v. ¬ Readings row tree (reading 0 v 1 ∷ readings)) (5 ∷ 2 ∷ 4 ∷ 1 ∷ [])
@@ -134,10 +127,6 @@ smallTree = record { nodes = 2; root = 0; parent = λ v. 0; depth = λ v. v; isR
 -- its starts: 0, 60, 960, 1020 and so on
 unfoldable pub smallNetwork : Network
 smallNetwork = networkOf smallRow (lines smallRow) smallTree (λ v. 0)
-
--- a frame in a symbol, and one more as soon as the token bucket has room for it, twice
-unfoldable pub soonFrom : ℕ → List Reading
-soonFrom a = reading a 1 1 ∷ reading (a + 479) 1 1 ∷ reading (a + 959) 1 1 ∷ []
 
 -- the first frame misses the start in symbol 60
 unfoldable pub fullReadings : List Reading
@@ -236,7 +225,7 @@ pub record JustMet : Type 0 where
   pub used : usedOffPath allSlots 0 .0 ∷ reservableAt allSlots 0 .0 ∷ [] ≡ 7 ∷ 7 ∷ []
   pub planned : outcomeOf allSlots ≡ Planned (lines allSlots)
   -- 2 routers of 2
-  pub counted : routers allSuperframes ∷ superframes allSuperframes ∷ [] ≡ 2 ∷ 2 ∷ []
+  pub counted : routers allSuperframes ∷ superframes (radioOf allSuperframes) ∷ [] ≡ 2 ∷ 2 ∷ []
   pub plannedToo : outcomeOf allSuperframes ≡ Planned (lines allSuperframes)
 
 -- ---- a beacon for each router's own reservations (document 02, E2)

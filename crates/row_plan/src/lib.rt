@@ -6,11 +6,11 @@ ghost use mathlib.Core.Path.{_≡_};
 ghost use Rattle.refusals.specs.declared.Verdict.the-variants.{Kept, Broken};
 ghost use Rattle.refusals.specs.Conditions.{firstBroken};
 ghost use Rattle.row_model.specs.Checks.{conditions};
-ghost use Rattle.plan_model.specs.Inner.{LinksLeft};
+ghost use Rattle.row_plan_model.specs.Inner.{LinksLeft};
 use crate::slots::slots_fit;
-use plan_model::Links;
 use refusals::Verdict;
 use row_loads::links_of;
+use row_plan_model::Links;
 use settings_model::Settings;
 
 mod slots; // number 7

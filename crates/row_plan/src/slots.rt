@@ -8,11 +8,11 @@ ghost use Rattle.refusals.specs.Conditions.{condition, firstBroken};
 ghost use mathlib.Core.List.{[], _∷_};
 ghost use lib.Dec.{ltb};
 ghost use Rattle.settings_model.specs.Laws.{Checked};
-ghost use Rattle.row_model.specs.Times.{timingOf, reservableAt};
+ghost use Rattle.row_model.specs.Times.{rowTiming, reservableAt};
 ghost use Rattle.row_model.specs.Loads.{sensor};
 ghost use Rattle.row_model.specs.Checks.{usedOffPath, usedOnPath, hasOffPath, offPathAt, usedAt, usedFrom};
 ghost use Rattle.row_model.specs.Bounds.{Sound};
-ghost use Rattle.plan_model.specs.Inner.{HeldFrom, HeldBelow, linkOf, linkUp, linkDown};
+ghost use Rattle.row_plan_model.specs.Inner.{HeldFrom, HeldBelow, linkOf, linkUp, linkDown};
 use measure::Slots;
 use refusals::Refusal;
 use refusals::Verdict;
@@ -23,7 +23,7 @@ use superframe::orders::reservable_slots;
 // Number 7: the first depth at which the slots used exceed its L, if there is one. `end` is an end node's reservation.
 pub(crate) fn slots_fit(s: Settings, end: Slots, up: &[u64; 65], down: &[u64; 65]) -> Verdict
     requires { ⌜ Sound s ⌝ }
-    requires { ⌜ end ≡ linkOf (timingOf s) (sensor s) .reservation .slots ⌝ }
+    requires { ⌜ end ≡ linkOf (rowTiming s) (sensor s) .reservation .slots ⌝ }
     requires { ⌜ HeldFrom (linkUp s) 0 (s .h) (now up) ⌝ }
     requires { ⌜ HeldBelow (linkDown s) (s .sink) (now down) ⌝ }
     ensures { λ r. ⌜ r ≡ firstBroken Broken Kept (usedFrom s (suc (s .h)) 0) ⌝ }
@@ -42,7 +42,7 @@ pub(crate) fn slots_fit(s: Settings, end: Slots, up: &[u64; 65], down: &[u64; 65
 // Number 7 at depth i: the routers off the sink's path, and the one on it.
 fn depth_fits(s: Settings, end: Slots, up: &[u64; 65], down: &[u64; 65], i: u64) -> Verdict
     requires { ⌜ Sound s ⌝ }
-    requires { ⌜ end ≡ linkOf (timingOf s) (sensor s) .reservation .slots ⌝ }
+    requires { ⌜ end ≡ linkOf (rowTiming s) (sensor s) .reservation .slots ⌝ }
     requires { ⌜ HeldFrom (linkUp s) 0 (s .h) (now up) ⌝ }
     requires { ⌜ HeldBelow (linkDown s) (s .sink) (now down) ⌝ }
     requires { ⌜ i ≤ s .h ⌝ }
@@ -100,7 +100,7 @@ fn has_off_path(s: Settings, i: u64) -> bool
 // What a router off the sink's path uses at depth i: NE end nodes, and above depth H NR child routers.
 fn off_path_slots(s: Settings, end: Slots, up: &[u64; 65], i: u64) -> Slots
     requires { ⌜ Sound s ⌝ }
-    requires { ⌜ end ≡ linkOf (timingOf s) (sensor s) .reservation .slots ⌝ }
+    requires { ⌜ end ≡ linkOf (rowTiming s) (sensor s) .reservation .slots ⌝ }
     requires { ⌜ HeldFrom (linkUp s) 0 (s .h) (now up) ⌝ }
     ensures { λ r. ⌜ r ≡ usedOffPath s i ⌝ }
 {
@@ -115,7 +115,7 @@ fn off_path_slots(s: Settings, end: Slots, up: &[u64; 65], i: u64) -> Slots
 // What the router on the sink's path uses at depth i: one of the NR is replaced by the downward one.
 fn on_path_slots(s: Settings, end: Slots, up: &[u64; 65], down: &[u64; 65], i: u64) -> Slots
     requires { ⌜ Sound s ⌝ }
-    requires { ⌜ end ≡ linkOf (timingOf s) (sensor s) .reservation .slots ⌝ }
+    requires { ⌜ end ≡ linkOf (rowTiming s) (sensor s) .reservation .slots ⌝ }
     requires { ⌜ HeldFrom (linkUp s) 0 (s .h) (now up) ⌝ }
     requires { ⌜ HeldBelow (linkDown s) (s .sink) (now down) ⌝ }
     requires { ⌜ i < s .sink ⌝ }

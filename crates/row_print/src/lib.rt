@@ -8,7 +8,7 @@ ghost use Prim.Native.Nat.{_≤_};
 ghost use lib.ListN.{length};
 ghost use lib.Seq.{sets};
 ghost use Rattle.refusals.specs.declared.Verdict.the-variants.{Kept};
-ghost use Rattle.row_model.specs.Times.{timingOf};
+ghost use Rattle.row_model.specs.Times.{rowTiming};
 ghost use Rattle.row_model.specs.Loads.{sensor, atSink};
 ghost use Rattle.row_model.specs.Lines.{lines};
 ghost use Rattle.row_model.specs.Outcome.{outcomeOf};
@@ -16,7 +16,7 @@ ghost use Rattle.row_model.specs.Promise.{Keeps};
 ghost use Rattle.row_model.specs.Bounds.{Sound};
 ghost use Rattle.report_model.specs.Text.{text};
 ghost use Rattle.plan_model.specs.Plans.{answer, written};
-ghost use Rattle.plan_model.specs.Inner.{HeldFrom, HeldBelow, linkOf, linkUp, linkDown};
+ghost use Rattle.row_plan_model.specs.Inner.{HeldFrom, HeldBelow, linkOf, linkUp, linkDown};
 use crate::page::put_downward;
 use crate::page::put_end;
 use crate::page::put_sink;
@@ -24,11 +24,11 @@ use crate::page::put_upward;
 use links::Load;
 use measure::Symbols;
 use plan_common::refused_plan;
-use plan_model::Link;
 use plan_model::Plan;
-use plan_model::Written;
 use refusals::Verdict;
 use row_plan::decide;
+use row_plan_model::Link;
+use row_plan_model::Written;
 use settings_model::Settings;
 
 mod page; // the lines, put one behind another
@@ -71,8 +71,8 @@ fn put_lines(
     arriving: Load,
 ) -> usize
     requires { ⌜ Sound s ⌝ }
-    requires { ⌜ interval ≡ timingOf s .interval ⌝ }
-    requires { ⌜ end ≡ linkOf (timingOf s) (sensor s) ⌝ }
+    requires { ⌜ interval ≡ rowTiming s .interval ⌝ }
+    requires { ⌜ end ≡ linkOf (rowTiming s) (sensor s) ⌝ }
     requires { ⌜ HeldFrom (linkUp s) 0 (s .h) (now up) ⌝ }
     requires { ⌜ HeldBelow (linkDown s) (s .sink) (now down) ⌝ }
     requires { ⌜ arriving ≡ atSink s ⌝ }

@@ -2,23 +2,24 @@
 ghost use mathlib.Core.Path.{_≡_};
 ghost use Prim.Native.Nat.{_+_, _≤_};
 ghost use Rattle.links.specs.Answers.{figuresAnswered};
-ghost use Rattle.row_model.specs.Times.{timingOf};
+ghost use Rattle.row_model.specs.Times.{rowTiming};
 ghost use Rattle.row_model.specs.Loads.{sensor, atSink};
-ghost use Rattle.row_model.specs.declared.Kind.the-variants.{Sink};
-ghost use Rattle.row_model.specs.Lines.{line, totalDelay, sinkFigures, endLines, upLines};
+ghost use Rattle.plan_model.specs.declared.Kind.the-variants.{Sink};
+ghost use Rattle.plan_model.specs.Lines.{line};
+ghost use Rattle.row_model.specs.Lines.{totalDelay, sinkFigures, endLines, upLines};
 ghost use Rattle.row_model.specs.Bounds.{Sound};
-ghost use Rattle.plan_model.specs.Inner.{HeldFrom, HeldBelow, linkOf, linkUp, linkDown};
-ghost use Rattle.plan_model.specs.Pages.{page, pushed, filled, downLinesFrom};
+ghost use Rattle.row_plan_model.specs.Inner.{HeldFrom, HeldBelow, linkOf, linkUp, linkDown};
+ghost use Rattle.row_plan_model.specs.Pages.{page, pushed, filled, downLinesFrom};
 use links::Figures;
 use links::Load;
 use measure::Frames;
 use measure::Slots;
 use measure::Symbols;
-use plan_model::Link;
-use plan_model::Written;
+use plan_model::Kind;
+use plan_model::Line;
 use row_loads::table::link_at;
-use row_model::Kind;
-use row_model::Line;
+use row_plan_model::Link;
+use row_plan_model::Written;
 use settings_model::Settings;
 
 // Puts one line more.
@@ -68,8 +69,8 @@ pub(crate) fn put_end(
     end: Link,
 ) -> Written
     requires { ⌜ Sound s ⌝ }
-    requires { ⌜ interval ≡ timingOf s .interval ⌝ }
-    requires { ⌜ end ≡ linkOf (timingOf s) (sensor s) ⌝ }
+    requires { ⌜ interval ≡ rowTiming s .interval ⌝ }
+    requires { ⌜ end ≡ linkOf (rowTiming s) (sensor s) ⌝ }
     requires { ⌜ w .end ≤ 56 ⌝ }
     ensures { λ r. ⌜ page r (now (out .exit)) ≡ filled (page w (now (out .entry))) (endLines s) ⌝ }
     ensures { λ r. ⌜ r .end ≤ 226 ⌝ }
@@ -89,7 +90,7 @@ pub(crate) fn put_upward(
     up: &[u64; 65],
 ) -> Written
     requires { ⌜ Sound s ⌝ }
-    requires { ⌜ interval ≡ timingOf s .interval ⌝ }
+    requires { ⌜ interval ≡ rowTiming s .interval ⌝ }
     requires { ⌜ HeldFrom (linkUp s) 0 (s .h) (now up) ⌝ }
     requires { ⌜ w .end ≤ 226 ⌝ }
     ensures { λ r. ⌜ page r (now (out .exit)) ≡ filled (page w (now (out .entry))) (upLines s (s .h)) ⌝ }
@@ -115,7 +116,7 @@ pub(crate) fn put_downward(
     down: &[u64; 65],
 ) -> Written
     requires { ⌜ Sound s ⌝ }
-    requires { ⌜ interval ≡ timingOf s .interval ⌝ }
+    requires { ⌜ interval ≡ rowTiming s .interval ⌝ }
     requires { ⌜ HeldBelow (linkDown s) (s .sink) (now down) ⌝ }
     requires { ⌜ w .end ≤ 2266 ⌝ }
     ensures { λ r. ⌜ page r (now (out .exit)) ≡ filled (page w (now (out .entry))) (downLinesFrom s (s .sink) 0) ⌝ }
@@ -139,7 +140,7 @@ pub(crate) fn put_sink(
     interval: Symbols,
     arriving: Load,
 ) -> Written
-    requires { ⌜ interval ≡ timingOf s .interval ⌝ }
+    requires { ⌜ interval ≡ rowTiming s .interval ⌝ }
     requires { ⌜ arriving ≡ atSink s ⌝ }
     requires { ⌜ w .delay ≡ totalDelay s ⌝ }
     requires { ⌜ w .end ≤ 4306 ⌝ }

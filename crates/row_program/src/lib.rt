@@ -14,13 +14,15 @@ ghost use Rattle.row_answer_model.specs.Outcomes.{rowOutcome};
 ghost use Rattle.reason_model.specs.Reasons.{spoken};
 ghost use Rattle.row_program_model.specs.declared.Style.the-variants.{Plans, Reasons};
 ghost use Rattle.row_read_model.specs.Rows.{named};
-ghost use Rattle.row_program_model.specs.Output.{tooLong, headingIn, printed, refusalPrinted};
+ghost use Rattle.program_model.specs.Printed.{tooLong};
+ghost use Rattle.row_program_model.specs.Output.{headingIn, printed, refusalPrinted};
 ghost use Rattle.row_program_model.specs.Steps.{start, rowsFrom, behind, opening, rowAt, step, piece};
 use buffer::put_byte;
 use lines::Cursor;
 use lines::Line;
 use lines::next_line;
 use lines::part;
+use program_model::LIMIT;
 use reason_print::put_verdict;
 use refusals::Refusal;
 use refusals::Verdict;
@@ -33,9 +35,6 @@ use row_program_model::Style;
 use row_read::heading_of;
 use row_read::is_other;
 use row_read_model::Heading;
-
-// No input may be longer.
-pub const LIMIT: usize = 65536;
 
 // Nothing printed yet.
 pub fn begin() -> Progress

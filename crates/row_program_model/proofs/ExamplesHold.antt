@@ -4,14 +4,15 @@ use Rattle.lines.specs.Text.{ended, lines}
 use Rattle.row_answer_model.proofs.Computing.{answered}
 use Rattle.report_model.specs.Text.{header, numbers, lineText, text, refusalText}
 use Rattle.reason_model.proofs.Computing.{worded}
-use Rattle.plan_model.specs.Plans as plans
-use Rattle.row_program_model.specs.Output.{printed, rowsPrinted, tooLong, headingIn, inputConditions, output}
+use Rattle.program_model.specs.Printed as program
+use Rattle.row_program_model.specs.Output.{printed, rowsPrinted, headingIn, inputConditions, output}
+use Rattle.program_model.specs.Printed.{tooLong}
 use Rattle.row_program_model.specs.Examples as examples
 use Rattle.row_program_model.specs.Examples.{ours, oursLossy, explained, lossyExplained, ExamplesHold, LossyHold, InputsHold, ReasonsHold, LossyReasonsHold}
 
 -- to unfold `outputs` is to unfold all that an output is computed with
 outputs : Type 0
-unfolding answered worded lines ended header numbers lineText text refusalText plans.printed printed rowsPrinted tooLong headingIn inputConditions output
+unfolding answered worded lines ended header numbers lineText text refusalText program.printed printed rowsPrinted tooLong headingIn inputConditions output
 outputs = Unit
 
 pub inputs-hold : InputsHold

@@ -27,7 +27,8 @@ use Rattle.report_model.specs.Text.{text}
 use Rattle.reason_model.specs.Reasons.{spoken}
 use Rattle.row_program_model.specs.declared.Style.{Style}
 use Rattle.row_program_model.specs.declared.Style.the-variants.{Reasons}
-use Rattle.row_program_model.specs.Output.{printed, refusalPrinted, tooLong, headingIn, inputConditions}
+use Rattle.row_program_model.specs.Output.{printed, refusalPrinted, headingIn, inputConditions}
+use Rattle.program_model.specs.Printed.{tooLong}
 use Rattle.row_program_model.specs.Steps.{rowsFrom, Step, behind, opening}
 
 -- a first step that prints these bytes, with the rows from there on

@@ -18,7 +18,7 @@ use Rattle.refusals.proofs.Answering.{verdict, answer-broken, answer-kept}
 use Rattle.refusals.specs.Conditions.{firstBroken}
 use Rattle.report_model.specs.Text.{text, refusalText}
 use Rattle.plan_model.specs.Plans.{answer}
-use Rattle.plan_model.specs.Plans as plans
+use Rattle.program_model.specs.Printed as program
 use Rattle.row_read_model.specs.declared.Heading.{Heading}
 use Rattle.row_answer_model.specs.Outcomes.{rowOutcome}
 use Rattle.reason_model.specs.Reasons.{spoken}
@@ -28,7 +28,8 @@ use Rattle.row_program_model.specs.declared.Style.the-variants.{Plans, R
 use Rattle.row_program_model.proofs.Inputs.{spoken-verdict}
 use Rattle.row_program_model.specs.declared.Progress.{Progress}
 use Rattle.row_program_model.specs.declared.Piece.{Piece}
-use Rattle.row_program_model.specs.Output.{printed, refusalPrinted, rowsPrinted, tooLong, headingIn, inputConditions, output}
+use Rattle.row_program_model.specs.Output.{printed, refusalPrinted, rowsPrinted, headingIn, inputConditions, output}
+use Rattle.program_model.specs.Printed.{tooLong}
 use Rattle.row_program_model.specs.Steps.{start, rowsFrom, Step, behind, opening, rowAt, step, piece, printedFrom}
 use Rattle.row_program_model.specs.Laws.{LongInputs, OtherInputs, OneLineForRow, toGo, StepsEnd, StepsPrintAll}
 
@@ -39,7 +40,7 @@ unfolding output inputConditions tooLong firstBroken
 long-printed s input h = rw (lt-ltb 65536 (length input) h)
 
 pub long-inputs : LongInputs
-unfolding plans.printed printed worded ended joined refusalText
+unfolding program.printed printed worded ended joined refusalText
 long-inputs input h = (long-printed Plans input h, long-printed Reasons input h)
 
 pub other-inputs : OtherInputs

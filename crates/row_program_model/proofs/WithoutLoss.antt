@@ -22,7 +22,8 @@ use Rattle.row_model.specs.Outcome.{RowOutcome}
 use Rattle.row_read_model.proofs.WithoutLoss.{names-of-twelve, names-of-thirteen}
 use Rattle.row_answer_model.proofs.WithoutLoss as answers
 use Rattle.row_program_model.specs.declared.Style.{Style}
-use Rattle.row_program_model.specs.Output.{printed, rowsPrinted, tooLong, headingIn, inputConditions, output}
+use Rattle.row_program_model.specs.Output.{printed, rowsPrinted, headingIn, inputConditions, output}
+use Rattle.program_model.specs.Printed.{tooLong}
 use Rattle.row_program_model.specs.Laws.{allTwelve, SameWithoutLoss}
 
 rows-same : (s : Style) (rows : List (List ℕ)) → allTwelve rows ≡ true → rowsPrinted s Thirteen (map withZero rows) ≡ rowsPrinted s Twelve rows

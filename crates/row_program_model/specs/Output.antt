@@ -1,13 +1,11 @@
 -- What is printed for a whole input (document 01, 'The printed plan' and 'Rows of settings'). Assumes nothing: these are definitions.
 use Prim.Native.Nat.{ℕ}
 use mathlib.Core.List.{List, [], _∷_, _++_}
-use lib.Dec.{ltb}
-use lib.ListN.{length, getD, drop}
+use lib.ListN.{getD, drop}
 use Rattle.lines.specs.Text.{lines, ended}
 use Rattle.refusals.specs.declared.Refusal.{Refusal}
-use Rattle.refusals.specs.declared.Refusal.the-variants.{InputTooLong}
 use Rattle.refusals.specs.declared.Verdict.the-variants.{Kept, Broken}
-use Rattle.refusals.specs.Conditions.{Condition, condition, firstBroken}
+use Rattle.refusals.specs.Conditions.{Condition, firstBroken}
 use Rattle.row_read_model.specs.declared.Heading.{Heading}
 use Rattle.row_read_model.specs.Names.{headingOf}
 use Rattle.row_read_model.specs.Rows.{named}
@@ -15,7 +13,8 @@ use Rattle.refusals.specs.Outcome.{Planned, Refused}
 use Rattle.row_model.specs.Outcome.{RowOutcome}
 use Rattle.row_answer_model.specs.Outcomes.{rowOutcome}
 use Rattle.report_model.specs.Text.{text}
-use Rattle.plan_model.specs.Plans as plans
+use Rattle.program_model.specs.Printed as program
+use Rattle.program_model.specs.Printed.{tooLong}
 use Rattle.reason_model.specs.Reasons.{spoken}
 use Rattle.row_program_model.specs.declared.Style.{Style}
 use Rattle.row_program_model.specs.declared.Style.the-variants.{Plans, Reasons}
@@ -23,7 +22,7 @@ use Rattle.row_program_model.specs.declared.Style.the-variants.{Plans, R
 -- what is printed for a row. Plans: its plan; "A refused row prints `R`, number and place instead". Reasons (document 02, E1): one line
 -- of English, that it is planned or why it is refused.
 unfoldable pub printed : Style → RowOutcome → List ℕ
-printed Plans o = plans.printed text o
+printed Plans o = program.printed text o
 printed Reasons (Planned p) = ended (spoken Kept ∷ [])
 printed Reasons (Refused r) = ended (spoken (Broken r) ∷ [])
 
@@ -39,10 +38,6 @@ rowsPrinted s heading (r ∷ rs) = printed s (rowOutcome heading r) ++ rowsPrint
 -- which line of names the first line is. An input without a line has none.
 unfoldable pub headingIn : List ℕ → Heading
 headingIn input = headingOf (getD (lines input) 0 [])
-
--- number 9: "program's input over 65,536 bytes"
-unfoldable pub tooLong : List ℕ → List (Condition Refusal)
-tooLong input = condition (ltb 65536 (length input)) InputTooLong ∷ []
 
 -- numbers 9 and 1, in this order: "Number 9 [..] comes before all others"
 unfoldable pub inputConditions : List ℕ → List (Condition Refusal)

@@ -1,25 +1,25 @@
 // The columns' ranges: number 3 of document 01's table.
 ghost use mathlib.Core.Path.{_≡_};
-ghost use Prim.Native.Nat.{_+_, _<_};
+ghost use Prim.Native.Nat.{_+_, _≤_, _<_};
 ghost use lib.ListN.{length};
 ghost use Rattle.refusals.specs.declared.Verdict.the-variants.{Kept, Broken};
 ghost use Rattle.refusals.specs.declared.Refusal.the-variants.{OutOfRange};
-ghost use Rattle.settings_model.specs.Columns.{table, columnAt, within};
+ghost use Rattle.settings_model.specs.Columns.{columnAt, inRange};
 ghost use Rattle.refusals.specs.Conditions.{firstBroken};
 ghost use Rattle.settings_model.specs.Checks.{ranged};
 use refusals::Refusal;
 use refusals::Verdict;
 
-// The first value outside its column's range, if any is.
-pub(crate) fn in_range(numbers: [u64; 13]) -> Verdict
-    requires { ⌜ length numbers ≡ 13 ⌝ }
-    ensures { λ r. ⌜ r ≡ firstBroken Broken Kept (ranged 1 table numbers) ⌝ }
+// The first of some values outside its range, if any is: values of the columns behind the first `before`.
+pub(crate) fn in_range(before: usize, numbers: &[u64]) -> Verdict
+    requires { ⌜ before + length (now numbers) ≤ 13 ⌝ }
+    ensures { λ r. ⌜ r ≡ firstBroken Broken Kept (ranged before (now (numbers .entry))) ⌝ }
 {
     let mut k = 0;
-    while k < 13 {
+    while k < numbers.len() {
         let v = numbers[k];
-        if !fits(k, v) {
-            return outside(k, v);
+        if !fits(before + k, v) {
+            return outside(before + k, v);
         }
         k += 1;
     }
@@ -29,7 +29,7 @@ pub(crate) fn in_range(numbers: [u64; 13]) -> Verdict
 // Whether a value is in the range of the column behind the first k.
 fn fits(k: usize, value: u64) -> bool
     requires { ⌜ k < 13 ⌝ }
-    ensures { λ r. ⌜ r ≡ within (columnAt k) value ⌝ }
+    ensures { λ r. ⌜ r ≡ inRange (columnAt k) value ⌝ }
 {
     if value < lowest(k) {
         return false;

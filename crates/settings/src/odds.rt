@@ -6,22 +6,30 @@ ghost use lib.Dec.{ltb, eqb};
 ghost use Rattle.refusals.specs.declared.Verdict.the-variants.{Kept, Broken};
 ghost use Rattle.refusals.specs.declared.Refusal.the-variants.{AtOdds};
 ghost use Rattle.refusals.specs.Conditions.{firstBroken};
-ghost use Rattle.settings_model.specs.Checks.{atOdds};
+ghost use Rattle.settings_model.specs.Checks.{ordersAtOdds, shapeAtOdds, frameAtOdds};
 use refusals::Conflict;
 use refusals::Refusal;
 use refusals::Verdict;
+use settings_model::Radio;
 use settings_model::Settings;
 
 // The most octets that a frame has.
 const LONGEST_FRAME: u64 = 127;
 
-// The first values at odds, in the papers' order, if any are.
-pub(crate) fn agree(s: Settings) -> Verdict
-    ensures { λ r. ⌜ r ≡ firstBroken Broken Kept (atOdds s) ⌝ }
+// The beacon and the superframe order at odds, if they are.
+pub(crate) fn orders_agree(b: Radio) -> Verdict
+    ensures { λ r. ⌜ r ≡ firstBroken Broken Kept (ordersAtOdds b) ⌝ }
 {
-    if s.bo < s.so {
-        return conflict(Conflict::Orders { so: s.so, bo: s.bo });
+    if b.bo < b.so {
+        return conflict(Conflict::Orders { so: b.so, bo: b.bo });
     }
+    Verdict::Kept
+}
+
+// The first values of a row's tree that are at odds, in the papers' order, if any are.
+pub(crate) fn shape_agrees(s: Settings) -> Verdict
+    ensures { λ r. ⌜ r ≡ firstBroken Broken Kept (shapeAtOdds s) ⌝ }
+{
     if none_with_some(s.nr, s.h) {
         return conflict(Conflict::Routers { nr: s.nr, h: s.h });
     }
@@ -46,16 +54,23 @@ pub(crate) fn agree(s: Settings) -> Verdict
             nr: s.nr,
         });
     }
-    if too_long(s.head, s.payload) {
+    Verdict::Kept
+}
+
+// A frame's octets at odds, or LOSS and ACK, if they are.
+pub(crate) fn frame_agrees(b: Radio) -> Verdict
+    ensures { λ r. ⌜ r ≡ firstBroken Broken Kept (frameAtOdds b) ⌝ }
+{
+    if too_long(b.head, b.payload) {
         return conflict(Conflict::FrameLength {
-            head: s.head,
-            payload: s.payload,
+            head: b.head,
+            payload: b.payload,
         });
     }
-    if some_with_none(s.loss, s.ack) {
+    if some_with_none(b.loss, b.ack) {
         return conflict(Conflict::Unacknowledged {
-            loss: s.loss,
-            ack: s.ack,
+            loss: b.loss,
+            ack: b.ack,
         });
     }
     Verdict::Kept

@@ -1,12 +1,10 @@
 -- The examples of specs/Examples, computed. Assumes nothing.
 use mathlib.Core.Path.{refl}
-use Rattle.refusals.specs.Conditions.{firstBroken}
-use Rattle.settings_model.specs.Columns.{twelve, table}
-use Rattle.settings_model.specs.Checks.{valuesOf, ranged, atOdds, checks}
-use Rattle.settings_model.specs.Examples.{asked, Examples}
+use Rattle.settings_model.specs.Examples.{asked, Examples, askedBeside, ExamplesBeside}
+use Rattle.settings_model.proofs.Computing.{checking}
 
 pub examples-hold : Examples
-unfolding firstBroken twelve table valuesOf ranged atOdds checks asked
+unfolding checking asked
 examples-hold = record {
   first = refl;
   longestPayload = refl;
@@ -17,4 +15,16 @@ examples-hold = record {
   unacknowledged = refl;
   mostLoss = refl;
   lossOver = refl;
+}
+
+pub examples-beside-hold : ExamplesBeside
+unfolding checking askedBeside
+examples-beside-hold = record {
+  first = refl;
+  orderOver = refl;
+  headUnder = refl;
+  threeBeforeFour = refl;
+  orders = refl;
+  frameBeforeLoss = refl;
+  unacknowledged = refl;
 }

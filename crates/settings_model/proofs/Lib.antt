@@ -11,3 +11,5 @@ pub mod CheckLaws
 pub mod LawsHold
 -- the examples of specs/Examples
 pub mod ExamplesHold
+-- to unfold all that these conditions are computed with
+pub mod Computing

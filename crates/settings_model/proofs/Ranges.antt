@@ -6,7 +6,7 @@ use native.Mathlib.Omega.{arith}
 use native.Mathlib.Decide.{decLe}
 use lib.Dec.{leb}
 use borrow.Author.Tests.{le-leb, lt-leb}
-use Rattle.settings_model.specs.Columns.{twelve, table, columnAt, within}
+use Rattle.settings_model.specs.Columns.{twelve, table, columnAt, inRange}
 
 -- the lowest value of the first seven columns
 pub lowest-first : (k : ℕ) → k < 7 → 0 ≡ columnAt k .lowest
@@ -29,8 +29,8 @@ lowest-last k low high = elim (decLe k 11) [
 ]
 
 -- a value below the lowest is outside, one that is not is inside where it is at most the highest
-pub below-range : (k v l : ℕ) → l ≡ columnAt k .lowest → v < l → false ≡ within (columnAt k) v
+pub below-range : (k v l : ℕ) → l ≡ columnAt k .lowest → v < l → false ≡ inRange (columnAt k) v
 below-range k v l e h = let g = rw e at h in simp (lt-leb (columnAt k .lowest) v g)
 
-pub above-lowest : (k v l h : ℕ) → l ≡ columnAt k .lowest → h ≡ columnAt k .highest → l ≤ v → leb v h ≡ within (columnAt k) v
+pub above-lowest : (k v l h : ℕ) → l ≡ columnAt k .lowest → h ≡ columnAt k .highest → l ≤ v → leb v h ≡ inRange (columnAt k) v
 above-lowest k v l h e f g = let g′ = rw e at g in rw f (simp (le-leb (columnAt k .lowest) v g′))

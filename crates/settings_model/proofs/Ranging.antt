@@ -2,15 +2,15 @@
 use mathlib.Core.Path.{_≡_, refl}
 use mathlib.Core.Bool.{true, false, not}
 use mathlib.Core.List.{List, _∷_}
-use Prim.Native.Nat.{ℕ, suc, _<_}
+use Prim.Native.Nat.{ℕ, suc, _+_, _<_}
 use native.Mathlib.Omega.{arith}
 use lib.ListN.{length, getD, drop}
-use lib.Seq.{drop-cons}
+use lib.Seq.{drop-cons, drop-length}
 use Rattle.refusals.specs.declared.Refusal.the-variants.{OutOfRange}
 use Rattle.refusals.specs.declared.Verdict.the-variants.{Kept, Broken}
 use Rattle.refusals.specs.Conditions.{condition, firstBroken}
 use Rattle.refusals.proofs.Answering.{verdict}
-use Rattle.settings_model.specs.Columns.{column, twelve, table, columnAt, within}
+use Rattle.settings_model.specs.Columns.{column, twelve, table, columnAt, inRange}
 use Rattle.settings_model.specs.Checks.{ranged}
 
 pub table-length : length table ≡ 13
@@ -22,23 +22,22 @@ pub table-step : (k : ℕ) → k < 13 → drop k table ≡ columnAt k ∷ drop (
 unfolding columnAt
 table-step k h = drop-cons table k (column "" 0 0) (rw table-length h)
 
--- a value in its column's range, and one outside
-module _ (k : ℕ) (h : k < 13) (vs : List ℕ) (l : length vs ≡ 13) where
-  ranged-next : ranged (suc k) (drop k table) (drop k vs)
-      ≡ condition (not (within (columnAt k) (getD vs k 0))) (OutOfRange (suc k) (getD vs k 0)) ∷ ranged (suc (suc k)) (drop (suc k) table) (drop (suc k) vs)
+-- a value in its column's range, and one outside: value i of some whose first stands behind the first k columns
+module _ (k i : ℕ) (vs : List ℕ) (h : i < length vs) where
+  ranged-next : ranged (k + i) (drop i vs)
+      ≡ condition (not (inRange (columnAt (k + i)) (getD vs i 0))) (OutOfRange (suc (k + i)) (getD vs i 0)) ∷ ranged (suc (k + i)) (drop (suc i) vs)
   unfolding ranged
-  ranged-next = rw (table-step k h, drop-cons vs k 0 (omega (arith, l)))
+  ranged-next = rw (drop-cons vs i 0 h)
 
-  pub ranged-out : within (columnAt k) (getD vs k 0) ≡ false
-      → verdict (ranged (suc k) (drop k table) (drop k vs)) ≡ Broken (OutOfRange (suc k) (getD vs k 0))
+  pub ranged-out : inRange (columnAt (k + i)) (getD vs i 0) ≡ false → verdict (ranged (k + i) (drop i vs)) ≡ Broken (OutOfRange (suc (k + i)) (getD vs i 0))
   unfolding firstBroken
   ranged-out e = rw (ranged-next, e)
 
-  pub ranged-in : within (columnAt k) (getD vs k 0) ≡ true
-      → verdict (ranged (suc k) (drop k table) (drop k vs)) ≡ verdict (ranged (suc (suc k)) (drop (suc k) table) (drop (suc k) vs))
+  pub ranged-in : inRange (columnAt (k + i)) (getD vs i 0) ≡ true → verdict (ranged (k + i) (drop i vs)) ≡ verdict (ranged (suc (k + i)) (drop (suc i) vs))
   unfolding firstBroken
   ranged-in e = rw (ranged-next, e)
 
-pub ranged-all : (vs : List ℕ) → verdict (ranged 14 (drop 13 table) (drop 13 vs)) ≡ Kept
-unfolding ranged firstBroken twelve table
-ranged-all vs = refl
+-- behind the last value nothing is asked
+pub ranged-all : (k : ℕ) (vs : List ℕ) → verdict (ranged k (drop (length vs) vs)) ≡ Kept
+unfolding ranged firstBroken
+ranged-all k vs = rw (drop-length vs) refl

@@ -42,5 +42,5 @@ unfoldable pub columnAt : ℕ → Column
 columnAt k = getD table k (column "" 0 0)
 
 -- a value is in the column's range
-abbrev pub within : Column → ℕ → Bool
-within c v = leb (c .lowest) v && leb v (c .highest)
+abbrev pub inRange : Column → ℕ → Bool
+inRange c v = leb (c .lowest) v && leb v (c .highest)

@@ -7,11 +7,11 @@ ghost use mathlib.Core.Path.{_≡_};
 ghost use Prim.Native.Nat.{_≤_};
 ghost use lib.ListN.{length};
 ghost use lib.Seq.{sets};
-ghost use Rattle.tree_model.specs.Beside as definition;
+ghost use Rattle.settings_model.specs.Checks.{radio};
 ghost use Rattle.calls_model.specs.Calls.{left};
 ghost use Rattle.calls_model.specs.Reasons.{ReadAgain};
-ghost use Rattle.calls_model.specs.Trees.{planTree, checkTree, treeSpoken, explainTree};
-ghost use Rattle.calls_model.specs.Promise.{PromisedTree};
+ghost use Rattle.tree_calls_model.specs.Entries.{planTree, checkTree, treeSpoken, explainTree};
+ghost use Rattle.tree_calls_model.specs.Promise.{PromisedTree};
 use buffer::put_bytes;
 use calls::answer_of;
 use calls::leave;
@@ -20,8 +20,8 @@ use calls_model::Answer;
 use reason_print::put_reason;
 use refusals::Refusal;
 use refusals::Verdict;
+use settings_model::Radio;
 use tree_decide::decide;
-use tree_plan::beside;
 use tree_plan::plan_within;
 
 // Plans the tree of a node list, and writes nothing: no text fits one byte.
@@ -35,17 +35,10 @@ pub fn check_tree(
     sink: u32,
     loss: u32,
 ) -> Answer
-    ensures { λ r. ⌜ r ≡ checkTree (now (nodes .entry)) (definition.beside bo so head payload ack loss) sink ⌝ }
+    ensures { λ r. ⌜ r ≡ checkTree (now (nodes .entry)) (radio bo so head payload ack loss) sink ⌝ }
     ensures { λ r. ⌜ r .length ≤ 48576 ⌝ }
 {
-    let b = beside(
-        bo as u64,
-        so as u64,
-        head as u64,
-        payload as u64,
-        ack as u64,
-        loss as u64,
-    );
+    let b = radio_from(bo, so, head, payload, ack, loss);
     let mut space = [0u8; 1];
     answer_of(plan_within(nodes, b, sink as u64, &mut space))
 }
@@ -63,17 +56,10 @@ pub fn plan_tree(
     loss: u32,
     out: &mut [u8],
 ) -> Answer
-    ensures { λ r. ⌜ left r (now (out .exit)) ≡ planTree (now (nodes .entry)) (definition.beside bo so head payload ack loss) sink (now (out .entry)) ⌝ }
-    ensures { λ r. ⌜ PromisedTree (now (nodes .entry)) (definition.beside bo so head payload ack loss) sink r (now (out .exit)) ⌝ }
+    ensures { λ r. ⌜ left r (now (out .exit)) ≡ planTree (now (nodes .entry)) (radio bo so head payload ack loss) sink (now (out .entry)) ⌝ }
+    ensures { λ r. ⌜ PromisedTree (now (nodes .entry)) (radio bo so head payload ack loss) sink r (now (out .exit)) ⌝ }
 {
-    let b = beside(
-        bo as u64,
-        so as u64,
-        head as u64,
-        payload as u64,
-        ack as u64,
-        loss as u64,
-    );
+    let b = radio_from(bo, so, head, payload, ack, loss);
     let plan = plan_within(nodes, b, sink as u64, out);
     if out.len() < plan.length {
         return refused(Refusal::LentTooShort);
@@ -94,17 +80,10 @@ pub fn explain_tree(
     loss: u32,
     out: &mut [u8],
 ) -> Answer
-    ensures { λ r. ⌜ left r (now (out .exit)) ≡ explainTree (now (nodes .entry)) (definition.beside bo so head payload ack loss) sink (now (out .entry)) ⌝ }
+    ensures { λ r. ⌜ left r (now (out .exit)) ≡ explainTree (now (nodes .entry)) (radio bo so head payload ack loss) sink (now (out .entry)) ⌝ }
     ensures { λ r. ⌜ ReadAgain r (now (out .exit)) ⌝ }
 {
-    let b = beside(
-        bo as u64,
-        so as u64,
-        head as u64,
-        payload as u64,
-        ack as u64,
-        loss as u64,
-    );
+    let b = radio_from(bo, so, head, payload, ack, loss);
     let mut table = [0u64; 1];
     let mut hops = [0u8; 1];
     let decided = decide(nodes, b, sink as u64, &mut table, &mut hops);
@@ -125,4 +104,18 @@ fn put_tree_verdict(out: &mut [u8], verdict: Verdict) -> usize
         return put_reason(out, refusal);
     }
     put_bytes(out, 0, b"The tree is planned.")
+}
+
+// What comes beside a node list.
+fn radio_from(bo: u32, so: u32, head: u32, payload: u32, ack: u32, loss: u32) -> Radio
+    ensures { λ r. ⌜ r ≡ radio bo so head payload ack loss ⌝ }
+{
+    Radio {
+        bo: bo as u64,
+        so: so as u64,
+        head: head as u64,
+        payload: payload as u64,
+        ack: ack as u64,
+        loss: loss as u64,
+    }
 }

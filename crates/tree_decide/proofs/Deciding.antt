@@ -8,8 +8,8 @@ use Rattle.refusals.specs.declared.Verdict.{Verdict}
 use Rattle.refusals.specs.declared.Verdict.the-variants.{Kept}
 use Rattle.refusals.proofs.Answering.{verdict}
 use Rattle.links.specs.declared.Timing.{Timing}
-use Rattle.settings_model.specs.declared.Settings.{Settings}
-use Rattle.row_model.specs.Times.{timingOf}
+use Rattle.settings_model.specs.declared.Radio.{Radio}
+use Rattle.plan_model.specs.Times.{timingOf}
 use Rattle.plan_model.specs.declared.Plan.{Plan}
 use Rattle.plan_model.specs.Plans.{answer}
 use Rattle.plan_model.proofs.Answered.{answer-planned}
@@ -27,7 +27,7 @@ use Rattle.tree_plan_model.specs.Stages.{parentsIn, LoadsHeld, WaysLeft}
 use Rattle.tree_plan_model.proofs.Tabled.{Tabled, tabled, parents-held}
 use Rattle.tree_hops.proofs.Outcomes.{lines-many}
 
-module _ (input : List ℕ) (b : Settings) (sink : ℕ) where
+module _ (input : List ℕ) (b : Radio) (sink : ℕ) where
   -- demand 3
   pub decision-keeps : (r : Plan) → r ≡ answer treeTable (outcomeIn input b sink) → r .verdict ≡ Kept → Keeps b (treeIn input) sink (lines b (treeIn input) sink)
   decision-keeps r e k =

@@ -13,9 +13,9 @@ use Rattle.measure.specs.Measures.{symbols, slots, frames, wholeFrames}
 use Rattle.links.specs.declared.Timing.{Timing}
 use Rattle.links.specs.declared.Load.{Load}
 use Rattle.links.specs.declared.Figures.{Figures}
-use Rattle.row_model.specs.declared.Kind.{Kind}
-use Rattle.row_model.specs.declared.Kind.the-variants.{EndNode, Upward, Downward, Sink}
-use Rattle.tree_model.specs.declared.NodeLine.{NodeLine}
+use Rattle.plan_model.specs.declared.Kind.{Kind}
+use Rattle.plan_model.specs.declared.Kind.the-variants.{EndNode, Upward, Downward, Sink}
+use Rattle.plan_model.specs.declared.NodeLine.{NodeLine}
 use Rattle.tree_model.specs.Tree.{isRouter}
 use Rattle.tree_model.specs.Ways.{next, below, kindOf, depthOf}
 use Rattle.tree_model.proofs.WayLaws.{leads-down}

@@ -8,7 +8,7 @@ use lib.ListN.{length}
 use lib.Seq.{sets}
 use Rattle.network.specs.Counting.{join}
 use Rattle.links.specs.declared.Timing.{Timing}
-use Rattle.tree_model.specs.declared.NodeLine.{NodeLine}
+use Rattle.plan_model.specs.declared.NodeLine.{NodeLine}
 use Rattle.line_table_model.specs.Rows.{rowsOf}
 use Rattle.node_table_model.specs.NodeRows.{nodeNumbers, treeTable}
 use Rattle.node_table_model.proofs.NodeLaws.{nodes-put}

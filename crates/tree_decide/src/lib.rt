@@ -18,7 +18,7 @@ use plan_common::refused_plan;
 use plan_common::timing_of;
 use plan_model::Plan;
 use refusals::Verdict;
-use settings_model::Settings;
+use settings_model::Radio;
 use tree_hops::hops_of;
 
 mod figures; // of a node
@@ -27,7 +27,7 @@ mod lines; // the lines of the plan
 // Decides on the tree of a text with any settings and any sink: its verdict, and, as far as there is room, ten numbers for each node at the
 // front of a lent table and three beside. Both are left as they were where the tree is refused. Where it is planned, demand 3 holds of the
 // lines.
-pub fn decide(input: &[u8], b: Settings, sink: u64, table: &mut [u64], hops: &mut [u8]) -> Plan
+pub fn decide(input: &[u8], b: Radio, sink: u64, table: &mut [u64], hops: &mut [u8]) -> Plan
     ensures { λ r. ⌜ r ≡ answer treeTable (outcomeIn (now (input .entry)) b sink) ⌝ }
     ensures { λ r. ⌜ r .length ≤ 2540 ⌝ }
     ensures { λ _. ⌜ now (table .exit) ≡ sets (now (table .entry)) 0 (written treeTable (outcomeIn (now (input .entry)) b sink)) ⌝ }

@@ -14,18 +14,17 @@ use Rattle.refusals.specs.declared.Verdict.the-variants.{Kept, Broken}
 use Rattle.refusals.specs.Outcome.{Planned, Refused}
 use Rattle.refusals.proofs.Answering.{verdict, answer-broken, answer-kept}
 use Rattle.network.specs.Counting.{join}
-use Rattle.settings_model.specs.declared.Settings.{Settings}
-use Rattle.row_model.specs.Times.{timingOf}
+use Rattle.settings_model.specs.declared.Radio.{Radio}
+use Rattle.plan_model.specs.Times.{timingOf}
 use Rattle.tree_model.specs.Lines.{lines}
 use Rattle.tree_model.specs.Ways.{superframeOf}
 use Rattle.tree_read_model.specs.Survey.{treeFrom, treeIn, outcomeIn}
 use Rattle.tree_plan_model.specs.Tables.{Led, superframeIn}
 use Rattle.tree_plan_model.specs.Stages.{conditionsIn, parentsIn, LoadsHeld}
 use Rattle.tree_plan_model.specs.Hops.{hopOf, hopsOf, hopBy, hopsBy}
-use Rattle.tree_plan_model.proofs.Tabled.{Tabled, tabled, parents-held}
-use Rattle.tree_plan_model.proofs.Tabled.{lines-length}
+use Rattle.tree_plan_model.proofs.Tabled.{Tabled, tabled, parents-held, lines-length}
 
-module _ (input : List ℕ) (b : Settings) (sink : ℕ) where
+module _ (input : List ℕ) (b : Radio) (sink : ℕ) where
   pub outcome-refused : (r : Refusal) → verdict (conditionsIn input b sink) ≡ Broken r → Refused r ≡ outcomeIn input b sink
   unfolding outcomeIn conditionsIn
   outcome-refused r e = sym (answer-broken Refused (Planned (lines b (treeIn input) sink)) (conditionsIn input b sink) r e)

@@ -13,7 +13,7 @@ ghost use Rattle.tree_plan_model.specs.Hops.{hopsOf};
 ghost use Rattle.tree_plan_model.specs.Stages.{conditionsIn, LoadsLeft, WaysLeft};
 use crate::hops::put_hops;
 use refusals::Verdict;
-use settings_model::Settings;
+use settings_model::Radio;
 use tree_plan_model::Stage;
 use tree_ways::ways_of;
 
@@ -24,7 +24,7 @@ mod hops; // node after node
 // `tree_ways`.
 pub fn hops_of(
     input: &[u8],
-    b: Settings,
+    b: Radio,
     sink: u64,
     notes: &mut [u64; 768],
     depths: &mut [u8; 256],

@@ -9,9 +9,9 @@ use Rattle.refusals.specs.declared.Verdict.the-variants.{Kept, Broken}
 use Rattle.refusals.specs.Conditions.{Condition}
 use Rattle.refusals.proofs.Answering.{verdict, first-part-answers, second-part-answers}
 use Rattle.links.specs.declared.Timing.{Timing}
-use Rattle.settings_model.specs.declared.Settings.{Settings}
-use Rattle.settings_model.specs.Checks.{checks}
-use Rattle.row_model.specs.Times.{timingOf}
+use Rattle.settings_model.specs.declared.Radio.{Radio}
+use Rattle.settings_model.specs.Checks.{radioChecks}
+use Rattle.plan_model.specs.Times.{timingOf}
 use Rattle.tree_model.specs.Checks.{routersFit}
 use Rattle.tree_read_model.specs.Entries.{entryIn}
 use Rattle.tree_read_model.specs.Survey.{nodeLines, parentIn, treeFrom, treeIn, named, listed, sinkRight, surveyed}
@@ -27,7 +27,7 @@ use Rattle.tree_children.proofs.Linking.{kin-parents}
 
 -- ---- the conditions: the list's, then the others
 
-module _ (input : List ℕ) (b : Settings) (sink : ℕ) where
+module _ (input : List ℕ) (b : Radio) (sink : ℕ) where
   abbrev read : List (Condition Refusal)
   read = named input ++ listed (nodeLines input)
 
@@ -35,7 +35,7 @@ module _ (input : List ℕ) (b : Settings) (sink : ℕ) where
   unfolding conditionsBeforeSlots surveyed checksBeforeSlots
   in-parts =
       let s = sinkRight (treeIn input) sink in
-      ap (λ (cs : List (Condition Refusal)). cs ++ routersFit b (treeIn input)) (append-assoc read s (checks b)) ∙ append-assoc read (s ++ checks b) (routersFit b (treeIn input))
+      ap (λ (cs : List (Condition Refusal)). cs ++ routersFit b (treeIn input)) (append-assoc read s (radioChecks b)) ∙ append-assoc read (s ++ radioChecks b) (routersFit b (treeIn input))
 
   pub list-first : (r : Refusal) → verdict read ≡ Broken r → Broken r ≡ verdict (conditionsBeforeSlots input b sink)
   list-first r e = rw in-parts (first-part-answers Broken Kept read (checksBeforeSlots b (treeIn input) sink) r e)
@@ -66,7 +66,7 @@ module _ (input : List ℕ) (k : verdict (named input ++ listed (nodeLines input
   taken-room = omega (arith, taken-length, length-take (n + 1) ps)
 
   -- the conditions of the shape are those of the tree
-  pub shape-conditions : (b : Settings) (sink : ℕ) → verdict (checksBeforeSlots b (shape (take (n + 1) ps)) sink) ≡ verdict (checksBeforeSlots b (treeIn input) sink)
+  pub shape-conditions : (b : Radio) (sink : ℕ) → verdict (checksBeforeSlots b (shape (take (n + 1) ps)) sink) ≡ verdict (checksBeforeSlots b (treeIn input) sink)
   unfolding treeIn treeFrom
   shape-conditions b sink = rw (taken .0) (ap verdict (before-slots-same (parentsIn input) (burstsIn input) (ratesIn input) b sink))
 
@@ -77,7 +77,7 @@ module _ (input : List ℕ) (k : verdict (named input ++ listed (nodeLines input
     same : take (n + 1) ks ≡ parentsIn input
     same = rw (← long) (kin-parents (parentsIn input) ks refl (omega (arith, long, few)) size linked)
 
-    module _ (b : Settings) (sink : ℕ) (c : verdict (checksBeforeSlots b (shape (take (n + 1) ps)) sink) ≡ Kept) (a : Timing) (e : a ≡ timingOf b) where
+    module _ (b : Radio) (sink : ℕ) (c : verdict (checksBeforeSlots b (shape (take (n + 1) ps)) sink) ≡ Kept) (a : Timing) (e : a ≡ timingOf b) where
       kept : verdict (checksBeforeSlots b (treeIn input) sink) ≡ Kept
       kept = sym (shape-conditions b sink) ∙ c
 

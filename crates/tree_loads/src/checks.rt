@@ -5,7 +5,7 @@ ghost use Prim.Native.Nat.{_≤_};
 ghost use lib.ListN.{length};
 ghost use Rattle.refusals.specs.declared.Verdict.the-variants.{Kept, Broken};
 ghost use Rattle.refusals.specs.Conditions.{firstBroken};
-ghost use Rattle.settings_model.specs.Laws.{Checked};
+ghost use Rattle.settings_model.specs.Laws.{CheckedRadio};
 ghost use Rattle.tree_model.specs.Tree.{routers};
 ghost use Rattle.tree_model.specs.Checks.{routersFit};
 ghost use Rattle.tree_plan_model.specs.Children.{Linked};
@@ -13,19 +13,19 @@ ghost use Rattle.tree_plan_model.specs.Inner.{shape, checksBeforeSlots};
 use refusals::Refusal;
 use refusals::TreeRefusal;
 use refusals::Verdict;
-use settings_model::Settings;
+use settings_model::Radio;
 use tree_children::is_router;
 use tree_list::shape::sink_right;
 
 // All of them, in their order.
-pub(crate) fn check_before_slots(parents: &[u8], kin: &[u8; 768], b: Settings, sink: u64) -> Verdict
+pub(crate) fn check_before_slots(parents: &[u8], kin: &[u8; 768], b: Radio, sink: u64) -> Verdict
     requires { ⌜ 1 ≤ length (now parents) ⌝ }
     requires { ⌜ length (now parents) ≤ 255 ⌝ }
     requires { ⌜ Linked (now parents) (now kin) ⌝ }
     ensures { λ r. ⌜ r ≡ firstBroken Broken Kept (checksBeforeSlots b (shape (now (parents .entry))) sink) ⌝ }
 {
     if sink_right(parents, sink) {
-        let verdict = settings::check(b);
+        let verdict = settings::check_radio(b);
         if let Verdict::Broken(_) = verdict {
             return verdict;
         }
@@ -35,11 +35,11 @@ pub(crate) fn check_before_slots(parents: &[u8], kin: &[u8; 768], b: Settings, s
 }
 
 // Number 6, of checked settings.
-fn superframes_fit(parents: &[u8], kin: &[u8; 768], b: Settings) -> Verdict
+fn superframes_fit(parents: &[u8], kin: &[u8; 768], b: Radio) -> Verdict
     requires { ⌜ 1 ≤ length (now parents) ⌝ }
     requires { ⌜ length (now parents) ≤ 255 ⌝ }
     requires { ⌜ Linked (now parents) (now kin) ⌝ }
-    requires { ⌜ Checked b ⌝ }
+    requires { ⌜ CheckedRadio b ⌝ }
     ensures { λ r. ⌜ r ≡ firstBroken Broken Kept (routersFit b (shape (now (parents .entry)))) ⌝ }
 {
     let routers = routers_in(parents, kin);

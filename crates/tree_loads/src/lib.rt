@@ -10,7 +10,7 @@ use crate::checks::check_before_slots;
 use crate::walk::walk;
 use plan_common::timing_of;
 use refusals::Verdict;
-use settings_model::Settings;
+use settings_model::Radio;
 use tree_children::link_children;
 use tree_list::read_list;
 use tree_plan_model::Stage;
@@ -20,7 +20,7 @@ mod walk; // over the tree, away from the sink
 
 // Reads the list of a text and checks 10, 3, 4 and 6 for any settings and any sink. Where they are kept, lent notes hold the load that
 // enters each node and its neighbour towards the sink. A refused tree leaves every number as it was.
-pub fn loads_of(input: &[u8], b: Settings, sink: u64, notes: &mut [u64; 768]) -> Stage
+pub fn loads_of(input: &[u8], b: Radio, sink: u64, notes: &mut [u64; 768]) -> Stage
     ensures { λ r. ⌜ r .verdict ≡ firstBroken Broken Kept (conditionsBeforeSlots (now (input .entry)) b sink) ⌝ }
     ensures { λ r. ⌜ LoadsLeft (now (input .entry)) b sink r (now (notes .entry)) (now (notes .exit)) ⌝ }
 {

@@ -1,6 +1,6 @@
 -- The examples of specs/Examples, computed. Assumes nothing.
 use mathlib.Core.Path.{refl}
-use Rattle.row_model.specs.Witness.{columns}
+use Rattle.plan_model.specs.Lines.{columns}
 use Rattle.tree_model.specs.Promise.{longest}
 use Rattle.tree_model.specs.Examples.{upTo, nodeColumns, table, common, balancedTree, BalancedTrees, acknowledged, branches, Branches, gapped, closedUp, apart, loadedApart, silentApart, linesOfWhole, GapsAndSummaries, twoFailures, WithLoss, silent, lone, WithoutLinks, chain, SettingsRefused, whole, star, eight, eightOneSilent, elevenFourSilent, bothBroken, twoDown, fullBelow, oneSilent, RoutersRefused}
 use Rattle.tree_model.proofs.Computing.{trees}

@@ -11,16 +11,15 @@ use Rattle.network.specs.Model.{Network, queue}
 use Rattle.network.specs.Readings.{made}
 use Rattle.network.specs.Loads.{Linked}
 use Rattle.network.specs.Oracle.{run}
-use Rattle.network.specs.Examples.{reading, first, received}
+use Rattle.network.specs.Examples.{reading, first, received, soonFrom}
 use Rattle.network.proofs.Sums.{total-ap, total-add, total-zero}
-use Rattle.row_model.specs.declared.Kind.the-variants.{EndNode, Sink}
-use Rattle.row_model.specs.Witness.{columns, soonFrom}
-use Rattle.row_model.proofs.Stretches.{stretch}
-use Rattle.row_model.proofs.Witnesses.{soon-made, soon-few}
-use Rattle.tree_model.specs.declared.NodeLine.{NodeLine}
-use Rattle.tree_model.specs.Beside.{beside}
+use Rattle.plan_model.specs.declared.Kind.the-variants.{EndNode, Sink}
+use Rattle.plan_model.specs.Lines.{columns}
+use Rattle.network.proofs.Stretches.{soon-makes, soon-none}
+use Rattle.plan_model.specs.declared.NodeLine.{NodeLine}
+use Rattle.settings_model.specs.Checks.{radio}
 use Rattle.tree_model.specs.Lines.{lines}
-use Rattle.tree_model.specs.Promise.{printed, networkOf, Windows, Readings}
+use Rattle.tree_model.specs.Promise.{figuresIn, siteOf, networkOf, Windows, Readings}
 use Rattle.tree_model.specs.Laws.{Surveyed}
 use Rattle.tree_model.specs.Examples.{nodeColumns, table}
 use Rattle.tree_model.specs.Witness.{shortest, pair, pairNetwork, fullReadings, Filled, lossy, lossyNetwork, lossyReadings, Lossy}
@@ -56,40 +55,18 @@ pair-surveyed = plain-list-surveyed (0 ∷ 0 ∷ 1 ∷ []) (0 ∷ 0 ∷ 1 ∷ []
 pair-linked : (P : ℕ → Type 0) → P 0 → P 1 → (N : Network) → N .nodes ≡ 2 → (i : ℕ) → Linked N i → P i
 pair-linked P a b N e i L = two P a b i (omega (arith, L .node))
 
-pair-windows : Windows shortest (lines shortest pair 1) pairNetwork (λ i. 0)
+pair-windows : Windows shortest (lines shortest pair 1) pair 1 (λ i. 0)
 unfolding witness
 pair-windows = pair-linked _ (lit≤ tt) (lit≤ tt) pairNetwork refl
-
--- in n symbols one after another the end node makes as many of three frames as lie there
-pair-total : (a x n : ℕ) → total (λ j. made (soonFrom a) (x + j) 1) n ≡ stretch a x n + (stretch (a + 479) x n + stretch (a + 959) x n)
-unfolding stretch
-pair-total a x n = omega (
-  arith,
-  total-ap (λ j. made (soonFrom a) (x + j) 1) (λ j. bit (eqb a (x + j)) + (bit (eqb (a + 479) (x + j)) + bit (eqb (a + 959) (x + j)))) n (λ j h. soon-made a (x + j)),
-  total-add (λ j. bit (eqb a (x + j))) (λ j. bit (eqb (a + 479) (x + j)) + bit (eqb (a + 959) (x + j))) n,
-  total-add (λ j. bit (eqb (a + 479) (x + j))) (λ j. bit (eqb (a + 959) (x + j))) n,
-)
-
--- the root makes none
-root-made : (a t : ℕ) → made (soonFrom a) t 0 ≡ 0
-unfolding made soonFrom reading
-root-made a t = omega (arith, never (eqb a t), never (eqb (a + 479) t), never (eqb (a + 959) t))
-  where
-    never : (b : Bool) → cond {A = ℕ} (b && false) 1 0 ≡ 0
-    never true = refl
-    never false = refl
-
-root-total : (a x n : ℕ) → total (λ j. made (soonFrom a) (x + j) 0) n ≡ 0
-root-total a x n = omega (arith, total-ap (λ j. made (soonFrom a) (x + j) 0) (λ j. 0) n (λ j h. root-made a (x + j)), total-zero n)
 
 pair-stretches : (P : ℕ → ℕ → ℕ → Type 0) → ((x n : ℕ) → P 0 x n) → ((x n : ℕ) → P 1 x n) → (i x n : ℕ) → i < 2 → P i x n
 pair-stretches P a b i x n h = two (λ i. P i x n) (a x n) (b x n) i h
 
-pub pair-readings : (head payload ack loss a : ℕ) → Readings (beside 0 0 head payload ack loss) pair (soonFrom a)
-unfolding trees pair soonFrom reading
+pub pair-readings : (head payload ack loss a : ℕ) → Readings (radio 0 0 head payload ack loss) pair 1 (soonFrom a)
+unfolding trees siteOf pair soonFrom reading
 pair-readings head payload ack loss a = record {
   sensors = each (lit< tt) (each (lit< tt) (each (lit< tt) none));
-  bucket = pair-stretches _ (λ x n. omega (arith, root-total a x n)) (λ x n. omega (arith, pair-total a x n, soon-few a x n));
+  bucket = pair-stretches _ (λ x n. omega (arith, soon-none a x n)) (λ x n. omega (arith, soon-makes a x n));
 }
 
 pair-plan : List NodeLine
@@ -99,7 +76,7 @@ pair-plan-is : pair-plan ≡ lines shortest pair 1
 unfolding witness pair-plan printed-line
 pair-plan-is = refl
 
-pair-full : length (queue (run (networkOf shortest pair-plan pair 1 (λ i. 0)) fullReadings first 1020) 1) ≡ printed pair-plan 1 .buffer .0
+pair-full : length (queue (run (networkOf shortest pair-plan pair 1 (λ i. 0)) fullReadings first 1020) 1) ≡ figuresIn pair-plan 1 .buffer .0
 unfolding witness pair-plan printed-line
 pair-full = refl
 
@@ -115,13 +92,13 @@ filled = record {
   columns = refl;
   windowsFit = pair-windows;
   keepBuckets = pair-readings 17 1 0 0 60;
-  full = subst (λ p. length (queue (run (networkOf shortest p pair 1 (λ i. 0)) fullReadings first 1020) 1) ≡ printed p 1 .buffer .0) pair-plan-is pair-full;
+  full = subst (λ p. length (queue (run (networkOf shortest p pair 1 (λ i. 0)) fullReadings first 1020) 1) ≡ figuresIn p 1 .buffer .0) pair-plan-is pair-full;
   arrived = subst (λ p. received (networkOf shortest p pair 1 (λ i. 0)) fullReadings first 1020 ≡ 1 ∷ 60 ∷ 1020 ∷ []) pair-plan-is pair-arrived;
 }
 
 -- ---- with loss
 
-lossy-windows : Windows lossy (lines lossy pair 1) lossyNetwork (λ i. 0)
+lossy-windows : Windows lossy (lines lossy pair 1) pair 1 (λ i. 0)
 unfolding witness
 lossy-windows = pair-linked _ (lit≤ tt) (lit≤ tt) lossyNetwork refl
 
@@ -132,7 +109,7 @@ lossy-plan-is : lossy-plan ≡ lines lossy pair 1
 unfolding witness lossy-plan printed-line
 lossy-plan-is = refl
 
-lossy-full : length (queue (run (networkOf lossy lossy-plan pair 1 (λ i. 0)) lossyReadings first 1120) 1) ≡ printed lossy-plan 1 .buffer .0
+lossy-full : length (queue (run (networkOf lossy lossy-plan pair 1 (λ i. 0)) lossyReadings first 1120) 1) ≡ figuresIn lossy-plan 1 .buffer .0
 unfolding witness lossy-plan printed-line
 lossy-full = refl
 
@@ -147,6 +124,6 @@ lossy-holds = record {
   columns = refl;
   windowsFit = lossy-windows;
   keepBuckets = pair-readings 5 1 1 1 160;
-  full = subst (λ p. length (queue (run (networkOf lossy p pair 1 (λ i. 0)) lossyReadings first 1120) 1) ≡ printed p 1 .buffer .0) lossy-plan-is lossy-full;
+  full = subst (λ p. length (queue (run (networkOf lossy p pair 1 (λ i. 0)) lossyReadings first 1120) 1) ≡ figuresIn p 1 .buffer .0) lossy-plan-is lossy-full;
   arrived = subst (λ p. received (networkOf lossy p pair 1 (λ i. 0)) lossyReadings first 1120 ≡ 1 ∷ 160 ∷ 1120 ∷ []) lossy-plan-is lossy-arrived;
 }

@@ -13,13 +13,13 @@ use Rattle.network.specs.Counting.{All, none, each, bit}
 use Rattle.network.proofs.Lists.{All-join}
 use Rattle.links.specs.Link.{slotsOf}
 use Rattle.links.proofs.LinkLaws.{slots-hold}
-use Rattle.settings_model.specs.declared.Settings.{Settings}
-use Rattle.settings_model.specs.Laws.{Checked}
-use Rattle.row_model.specs.declared.Kind.the-variants.{Sink}
-use Rattle.row_model.specs.Times.{timingOf}
-use Rattle.row_model.specs.Lines.{letter, sameKind}
-use Rattle.row_model.proofs.LoadLaws.{timed, interval-low, exchange-low}
-use Rattle.tree_model.specs.declared.NodeLine.{NodeLine}
+use Rattle.settings_model.specs.declared.Radio.{Radio}
+use Rattle.settings_model.specs.Laws.{CheckedRadio}
+use Rattle.plan_model.specs.declared.Kind.the-variants.{Sink}
+use Rattle.plan_model.specs.Times.{timingOf}
+use Rattle.plan_model.specs.Lines.{letter, sameKind}
+use Rattle.plan_model.proofs.TimeLaws.{timed, interval-low, exchange-low}
+use Rattle.plan_model.specs.declared.NodeLine.{NodeLine}
 use Rattle.tree_model.specs.Tree.{Tree, isListed}
 use Rattle.tree_model.specs.Ways.{next, superframeOf, kindOf}
 use Rattle.tree_model.specs.Loads.{entering}
@@ -28,7 +28,7 @@ use Rattle.tree_model.specs.Checks.{reserves, reservationsAt, usedAt, re
 use Rattle.refusals.proofs.Outcomes.{planned-unbroken, unbroken-planned}
 use Rattle.refusals.specs.Outcome.{Planned}
 use Rattle.tree_model.specs.Outcome.{outcomeOf}
-use Rattle.tree_model.specs.Promise.{networkOf, Windows, Keeps}
+use Rattle.tree_model.specs.Promise.{networkOf, Windows, Keeps, siteOf, printedOf}
 use Rattle.tree_model.specs.Laws.{Surveyed, Plannable, PlannedExactly, NoSlotTooMany, EveryLoadBounded, EveryPlanKeeps, WindowsExist}
 use Rattle.tree_model.proofs.LoadBounds.{Low, input-low}
 use Rattle.tree_model.proofs.WayLaws.{facing, superframe-node}
@@ -36,6 +36,7 @@ use Rattle.tree_model.proofs.Shares.{sum-has}
 use Rattle.tree_model.proofs.Conditions.{unbroken-plannable, plannable-unbroken}
 use Rattle.tree_model.proofs.NodeLines.{link-printed, link-rate, link-slots, no-slots}
 use Rattle.tree_model.proofs.Promised.{keeps}
+use Rattle.promise_model.specs.Promise as promise
 
 -- ---- planned exactly
 
@@ -47,13 +48,13 @@ planned-exactly b t s p = (
 )
 
 -- what holds of the lines of a tree that can be planned holds of every plan
-of-plans : (b : Settings) (t : Tree) (s : ℕ) (Q : List NodeLine → Type 0) → (Plannable b t s → Q (lines b t s))
+of-plans : (b : Radio) (t : Tree) (s : ℕ) (Q : List NodeLine → Type 0) → (Plannable b t s → Q (lines b t s))
     → (p : List NodeLine) → outcomeOf b t s ≡ Planned p → Q p
 of-plans b t s Q f p e = let h = planned-exactly b t s p .0 e in subst Q (h .1) (f (h .0))
 
 -- ---- no slot too many
 
-module _ (b : Settings) (t : Tree) (s : ℕ) (C : Checked b) where
+module _ (b : Radio) (t : Tree) (s : ℕ) (C : CheckedRadio b) where
   abbrev Fewest : NodeLine → Type 0
   Fewest l = sameKind (l .line .kind) Sink ≡ false → Smallest (l .line .figures .rate) (timingOf b .slot) (timingOf b .exchange) (l .line .figures .slots)
 
@@ -96,11 +97,11 @@ every-plan-keeps b t s p S e = of-plans b t s (Keeps b t s) (λ P. keeps b t s (
 -- ---- windows
 
 -- a window of reservable slots fits the interval
-reserved-fits : (b : Settings) (t : Tree) (s : ℕ) → Checked b → (r : ℕ) (k : Slots) → k .0 ≤ reservableAt b t s r .0 → k .0 * timingOf b .slot .0 ≤ timingOf b .interval .0
+reserved-fits : (b : Radio) (t : Tree) (s : ℕ) → CheckedRadio b → (r : ℕ) (k : Slots) → k .0 ≤ reservableAt b t s r .0 → k .0 * timingOf b .slot .0 ≤ timingOf b .interval .0
 unfolding reservableAt timingOf
 reserved-fits b t s C r k h = window-fits (b .so) (b .bo) (reservationsAt b t s r) k (C .orders) h
 
-module _ (b : Settings) (t : Tree) (s : ℕ) (S : Surveyed t s) (P : Plannable b t s) where
+module _ (b : Radio) (t : Tree) (s : ℕ) (S : Surveyed t s) (P : Plannable b t s) where
   -- a link with traffic is among the reservations of its router
   among : (v : ℕ) → 1 ≤ v → v ≤ t .nodes → (v ≡ s → ⊥) → 1 ≤ loadAt b t s v .rate .0 → slotsOf (timingOf b) (loadAt b t s v .rate) .0 ≤ usedAt b t s (superframeOf t s v) .0
   unfolding usedAt reserves bit
@@ -124,12 +125,12 @@ module _ (b : Settings) (t : Tree) (s : ℕ) (S : Surveyed t s) (P : Plannable b
       by (yes e) = rw (no-slots (timingOf b) (loadAt b t s v .rate) (timed b (P .checked)) e) (omega arith)
       by (no n) = reserved-fits b t s (P .checked) r (slotsOf (timingOf b) (loadAt b t s v .rate)) (reserved (omega (arith, n)))
 
-  windows : Windows b (lines b t s) (networkOf b (lines b t s) t s (λ i. 0)) (λ i. 0)
-  unfolding networkOf
+  windows : Windows b (lines b t s) t s (λ i. 0)
+  unfolding promise.networkOf siteOf printedOf
   windows i L =
       let m : suc i ≡ s → ⊥ = λ e. L .notSink (omega (arith, e)) in
       rw (link-printed b t (S .plain) s i (L .node) m, link-slots b t s (suc i) (timed b (P .checked)))
       (omega (arith, fits (suc i) (omega arith) (L .node) m))
 
 pub windows-exist : WindowsExist
-windows-exist b t s p S e = of-plans b t s (λ q. Windows b q (networkOf b q t s (λ i. 0)) (λ i. 0)) (λ P. windows b t s S P) p e
+windows-exist b t s p S e = of-plans b t s (λ q. Windows b q t s (λ i. 0)) (λ P. windows b t s S P) p e

@@ -17,8 +17,6 @@ pub mod Conditions
 pub mod Entering
 -- routes' delays
 pub mod Delays
--- frames and the sensors that made them
-pub mod Makers
 -- the printed lines, node by node
 pub mod NodeLines
 -- the tree's network has what network's theorem asks for

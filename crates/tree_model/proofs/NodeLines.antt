@@ -1,4 +1,4 @@
--- The printed lines of a surveyed tree, node by node. Assumes nothing.
+-- The figuresIn lines of a surveyed tree, node by node. Assumes nothing.
 use mathlib.Core.Path.{_≡_, refl, sym, ap, _∙_}
 use mathlib.Core.List.{List, [], _∷_, _++_}
 use Prim.Native.Nat.{ℕ, zero, suc, _≤_, _<_}
@@ -16,13 +16,13 @@ use Rattle.links.specs.declared.Figures.{Figures}
 use Rattle.links.specs.Link.{slotsOf, figuresOf, figuresBy, reservationOf}
 use Rattle.links.specs.Answers.{Timed}
 use Rattle.links.proofs.LinkLaws.{slots-hold}
-use Rattle.settings_model.specs.declared.Settings.{Settings}
-use Rattle.row_model.specs.Times.{timingOf}
-use Rattle.row_model.specs.Lines.{none}
-use Rattle.tree_model.specs.declared.NodeLine.{NodeLine}
+use Rattle.settings_model.specs.declared.Radio.{Radio}
+use Rattle.plan_model.specs.Times.{timingOf}
+use Rattle.plan_model.specs.Lines.{noFigures}
+use Rattle.plan_model.specs.declared.NodeLine.{NodeLine}
 use Rattle.tree_model.specs.Tree.{Tree, Plain}
 use Rattle.tree_model.specs.Lines.{loadAt, linkAt, sinkFigures, figuresAt, routeAt, lineAt, lines}
-use Rattle.tree_model.specs.Promise.{noLine, printed, route}
+use Rattle.tree_model.specs.Promise.{noLine, figuresIn, routeIn}
 use Rattle.tree_model.proofs.PlainLists.{plain-as-in-e3}
 
 -- lists with one entry for each number
@@ -47,31 +47,31 @@ module _ {A : Type 0} (f : ℕ → A) (d : A) where
       by (yes e) g = rw e (last (join n (λ i. f i ∷ [])) n (join-length n))
       by (no m) g = List·getD-append (join n (λ i. f i ∷ [])) (f n ∷ []) d i (omega (arith, join-length n, m)) ∙ g (omega (arith, m))
 
--- the line of node i + 1, where no number is missing and none stands for a branch
-module _ (b : Settings) (t : Tree) (p : Plain t) (s : ℕ) where
+-- the line of node i + 1, where no number is missing and noFigures stands for a branch
+module _ (b : Radio) (t : Tree) (p : Plain t) (s : ℕ) where
   line-at : (i : ℕ) → i < t .nodes → getD (lines b t s) i noLine ≡ lineAt b t s (suc i)
   line-at i h = rw (plain-as-in-e3 b t s p .lines) (join-at (λ i. lineAt b t s (suc i)) noLine (t .nodes) i h)
 
   -- the figures of a link's line, of the sink's, and ROUTE
-  pub link-printed : (i : ℕ) → i < t .nodes → (suc i ≡ s → ⊥) → printed (lines b t s) i ≡ linkAt b t s (suc i)
-  unfolding printed lineAt figuresAt
+  pub link-printed : (i : ℕ) → i < t .nodes → (suc i ≡ s → ⊥) → figuresIn (lines b t s) i ≡ linkAt b t s (suc i)
+  unfolding figuresIn lineAt figuresAt
   link-printed i h n = ap (λ (l : NodeLine). l .line .figures) (line-at i h) ∙ rw (ne-eqb (suc i) s n)
 
-  pub sink-printed : (i : ℕ) → i < t .nodes → suc i ≡ s → printed (lines b t s) i ≡ sinkFigures b t s
-  unfolding printed lineAt figuresAt
+  pub sink-printed : (i : ℕ) → i < t .nodes → suc i ≡ s → figuresIn (lines b t s) i ≡ sinkFigures b t s
+  unfolding figuresIn lineAt figuresAt
   sink-printed i h e = ap (λ (l : NodeLine). l .line .figures) (line-at i h) ∙ rw (eq-eqb (suc i) s e)
 
-  pub route-printed : (i : ℕ) → i < t .nodes → route (lines b t s) i ≡ routeAt b t s (suc i) .0
-  unfolding route lineAt
+  pub route-printed : (i : ℕ) → i < t .nodes → routeIn (lines b t s) i .0 ≡ routeAt b t s (suc i) .0
+  unfolding routeIn lineAt
   route-printed i h = ap (λ (l : NodeLine). l .route .0) (line-at i h)
 
-module _ (b : Settings) (t : Tree) (s : ℕ) where
+module _ (b : Radio) (t : Tree) (s : ℕ) where
   -- a link with traffic, and one without
   pub link-used : (v : ℕ) → 1 ≤ loadAt b t s v .rate .0 → linkAt b t s v ≡ figuresOf (timingOf b) (loadAt b t s v)
   unfolding linkAt
   link-used v h = rw (ne-eqb (loadAt b t s v .rate .0) 0 (λ e. omega arith))
 
-  pub link-unused : (v : ℕ) → loadAt b t s v .rate .0 ≡ 0 → linkAt b t s v ≡ none
+  pub link-unused : (v : ℕ) → loadAt b t s v .rate .0 ≡ 0 → linkAt b t s v ≡ noFigures
   unfolding linkAt
   link-unused v e = rw (eq-eqb (loadAt b t s v .rate .0) 0 e)
 
@@ -83,12 +83,12 @@ figures-slots : (a : Timing) (l : Load) → figuresOf a l .slots ≡ slotsOf a (
 unfolding figuresOf figuresBy reservationOf
 figures-slots a l = refl
 
-none-slots : none .slots ≡ slots 0
-unfolding none
+none-slots : noFigures .slots ≡ slots 0
+unfolding noFigures
 none-slots = refl
 
 -- SLOTS are those that the rate needs, also where it is 0
-pub link-slots : (b : Settings) (t : Tree) (s v : ℕ) → Timed (timingOf b) → linkAt b t s v .slots ≡ slotsOf (timingOf b) (loadAt b t s v .rate)
+pub link-slots : (b : Radio) (t : Tree) (s v : ℕ) → Timed (timingOf b) → linkAt b t s v .slots ≡ slotsOf (timingOf b) (loadAt b t s v .rate)
 link-slots b t s v h = by (ℕ-discrete (loadAt b t s v .rate .0) 0)
   where
     by : Dec (loadAt b t s v .rate .0 ≡ 0) → linkAt b t s v .slots ≡ slotsOf (timingOf b) (loadAt b t s v .rate)
@@ -99,12 +99,12 @@ figures-rate : (a : Timing) (l : Load) → figuresOf a l .rate ≡ l .rate
 unfolding figuresOf figuresBy
 figures-rate a l = refl
 
-none-rate : none .rate ≡ perInterval 0
-unfolding none
+none-rate : noFigures .rate ≡ perInterval 0
+unfolding noFigures
 none-rate = refl
 
 -- and RATE is the load's
-pub link-rate : (b : Settings) (t : Tree) (s v : ℕ) → linkAt b t s v .rate ≡ loadAt b t s v .rate
+pub link-rate : (b : Radio) (t : Tree) (s v : ℕ) → linkAt b t s v .rate ≡ loadAt b t s v .rate
 link-rate b t s v = by (ℕ-discrete (loadAt b t s v .rate .0) 0)
   where
     by : Dec (loadAt b t s v .rate .0 ≡ 0) → linkAt b t s v .rate ≡ loadAt b t s v .rate

@@ -13,8 +13,8 @@ use Rattle.network.specs.Counting.{bit, join}
 use Rattle.links.specs.declared.Timing.{Timing}
 use Rattle.links.specs.declared.Load.{Load}
 use Rattle.links.specs.Link.{load, after}
-use Rattle.settings_model.specs.declared.Settings.{Settings}
-use Rattle.row_model.specs.Times.{timingOf}
+use Rattle.settings_model.specs.declared.Radio.{Radio}
+use Rattle.plan_model.specs.Times.{timingOf}
 use Rattle.tree_model.specs.Tree.{Tree, treeOf, Planted, WithoutGaps, WithoutSummaries, Plain, sumTo, isRouter, routers, isListed}
 use Rattle.tree_model.specs.Loads.{sensed, leaving}
 use Rattle.tree_model.specs.Lines.{lineAt, lines}
@@ -62,7 +62,7 @@ module _ (t : Tree) (p : Plain t) where
       by (yes l) = rw (eq-eqb v 1 (omega arith), p .withoutSummaries v)
       by (no l) = rw (ne-eqb v 1 (λ e. absurd (l (omega arith))), le-leb 1 (t .parent v) (p .withoutGaps v most (omega arith)), p .withoutSummaries v)
 
-  pub line-per-node : (b : Settings) (s : ℕ) → lines b t s ≡ join (t .nodes) (λ i. lineAt b t s (suc i) ∷ [])
+  pub line-per-node : (b : Radio) (s : ℕ) → lines b t s ≡ join (t .nodes) (λ i. lineAt b t s (suc i) ∷ [])
   unfolding lines join
   line-per-node b s = up-to (t .nodes) (omega arith)
     where

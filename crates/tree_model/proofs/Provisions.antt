@@ -21,16 +21,16 @@ use Rattle.links.specs.declared.Load.{Load}
 use Rattle.links.specs.Link.{slotsOf, framesOf, latencyOf, after}
 use Rattle.links.specs.Answers.{Timed}
 use Rattle.links.proofs.LinkLaws.{serves, after-burst, delay-serves}
-use Rattle.settings_model.specs.declared.Settings.{Settings}
-use Rattle.settings_model.specs.Laws.{Checked}
-use Rattle.row_model.specs.Times.{timingOf}
-use Rattle.row_model.proofs.LoadLaws.{interval-positive, timed}
+use Rattle.settings_model.specs.declared.Radio.{Radio}
+use Rattle.settings_model.specs.Laws.{CheckedRadio}
+use Rattle.plan_model.specs.Times.{timingOf}
+use Rattle.plan_model.proofs.TimeLaws.{interval-positive, timed}
 use Rattle.tree_model.specs.Tree as tree
 use Rattle.tree_model.specs.Tree.{Tree, sumTo, Facing}
 use Rattle.tree_model.specs.Ways.{next}
 use Rattle.tree_model.specs.Loads.{sensed, leaving, steps, inputOf, outputOf, entering}
 use Rattle.tree_model.specs.Lines.{loadAt, linkAt, wayDelay, lines}
-use Rattle.tree_model.specs.Promise.{printed, networkOf, Windows}
+use Rattle.tree_model.specs.Promise.{figuresIn, networkOf, Windows, siteOf, printedOf}
 use Rattle.tree_model.specs.Laws.{Surveyed}
 use Rattle.tree_model.proofs.Steps.{offered}
 use Rattle.tree_model.proofs.WayLaws.{facing, next-node}
@@ -39,9 +39,10 @@ use Rattle.tree_model.proofs.LoadBounds.{leaving-rate}
 use Rattle.tree_model.proofs.PlainLists.{link-crossed}
 use Rattle.tree_model.proofs.Delays.{way-step}
 use Rattle.tree_model.proofs.NodeLines.{link-printed, link-used, no-slots, link-slots}
+use Rattle.promise_model.specs.Promise as promise
 
 -- a node's own sensor, the load that enters it, and of its link the latency, the delay and what is ahead, in the run's numbers
-unfoldable pub treeFigures : Settings → Tree → ℕ → Figures
+unfoldable pub treeFigures : Radio → Tree → ℕ → Figures
 treeFigures b t s = record {
   ownRate = λ i. sensed (timingOf b) t (suc i) .rate .0;
   ownBurst = λ i. sensed (timingOf b) t (suc i) .burst .0;
@@ -53,7 +54,7 @@ treeFigures b t s = record {
 }
 
 -- what leaves a link is the load after it
-pub tree-burst-after : (b : Settings) (t : Tree) (s i : ℕ) → burstAfter (treeFigures b t s) i ≡ after (timingOf b) (loadAt b t s (suc i)) .burst .0
+pub tree-burst-after : (b : Radio) (t : Tree) (s i : ℕ) → burstAfter (treeFigures b t s) i ≡ after (timingOf b) (loadAt b t s (suc i)) .burst .0
 unfolding burstAfter treeFigures
 tree-burst-after b t s i = sym (after-burst (timingOf b) (loadAt b t s (suc i)))
 
@@ -67,39 +68,39 @@ no-frames a ρ h e =
     let none : (1 ≤ m → ⊥) = λ l. omega (arith, k, z, mul-le-mul-right (a .exchange .0) l, h .exchangeSome) in
     omega (arith, none)
 
-pub load-silent : (b : Settings) (t : Tree) (s : ℕ) → Surveyed t s → (v : ℕ) → 1 ≤ v → v ≤ t .nodes → loadAt b t s v .rate .0 ≡ 0 → loadAt b t s v .burst .0 ≡ 0
+pub load-silent : (b : Radio) (t : Tree) (s : ℕ) → Surveyed t s → (v : ℕ) → 1 ≤ v → v ≤ t .nodes → loadAt b t s v .rate .0 ≡ 0 → loadAt b t s v .burst .0 ≡ 0
 unfolding loadAt entering
 load-silent b t s S v one most e =
     silent (timingOf b) t (S .planted) (S .ranged) (S .plain .withoutSummaries) v (next t s v) (facing t (S .planted) s (S .sinkSome) (S .sinkKnown) (S .plain .withoutGaps s (S .sinkKnown)) v one most (S .plain .withoutGaps v most)) e
 
-module _ (b : Settings) (C : Checked b) (t : Tree) (s : ℕ) (S : Surveyed t s) (offset : ℕ → ℕ) where
+module _ (b : Radio) (C : CheckedRadio b) (t : Tree) (s : ℕ) (S : Surveyed t s) (offset : ℕ → ℕ) where
   abbrev N : Network
   N = networkOf b (lines b t s) t s offset
 
   -- a node with a link is another than the sink
   other : (i : ℕ) → Linked N i → suc i ≡ s → ⊥
-  unfolding networkOf
+  unfolding promise.networkOf siteOf printedOf
   other i L e = L .notSink (omega (arith, e))
 
   node : (i : ℕ) → Linked N i → suc i ≤ t .nodes
-  unfolding networkOf
+  unfolding promise.networkOf siteOf printedOf
   node i L = L .node
 
   -- the window of a link holds as many exchanges as its reservation
   holds-is : (i : ℕ) → Linked N i → N .holds i ≡ framesOf (timingOf b) (loadAt b t s (suc i) .rate) .0
-  unfolding networkOf framesOf
+  unfolding promise.networkOf siteOf printedOf framesOf
   holds-is i L =
       ap (λ (k : Slots). framesIn k (timingOf b .slot) (timingOf b .exchange) .0)
       (ap (λ f. f .slots) (link-printed b t (S .plain) s i (node i L) (other i L)) ∙ link-slots b t s (suc i) (timed b C))
 
-  module _ (O : Windows b (lines b t s) N offset) where
+  module _ (O : Windows b (lines b t s) t s offset) where
     window-fits : (i : ℕ) → Linked N i → N .offset i + N .holds i * N .exchange ≤ N .interval
-    unfolding networkOf
-    window-fits i L = omega (arith, O i L, frames-fit (printed (lines b t s) i .slots) (timingOf b .slot) (timingOf b .exchange))
+    unfolding promise.networkOf siteOf printedOf
+    window-fits i L = omega (arith, O i L, frames-fit (figuresIn (lines b t s) i .slots) (timingOf b .slot) (timingOf b .exchange))
 
     -- document 01's latency, since the exchanges of a window fit the interval
     latency-is : (i : ℕ) → Linked N i → treeFigures b t s .latency i + N .holds i * N .exchange ≡ N .interval + 2 * N .exchange
-    unfolding networkOf treeFigures latencyOf
+    unfolding promise.networkOf siteOf printedOf treeFigures latencyOf
     latency-is i L =
         let a : Timing = timingOf b in
         let m : ℕ = framesOf a (loadAt b t s (suc i) .rate) .0 in
@@ -136,7 +137,7 @@ module _ (b : Settings) (C : Checked b) (t : Tree) (s : ℕ) (S : Surveyed t s) 
   of-node f (suc i) = f i
 
   sent-only : (j w : ℕ) → 1 ≤ w → w ≤ t .nodes → sent j w ≡ true → (w ≡ s → ⊥) × (next t s w ≡ suc j)
-  unfolding sent feeds networkOf
+  unfolding sent feeds promise.networkOf siteOf printedOf
   sent-only j zero one most e = absurd (omega arith)
   sent-only j (suc i) one most e =
       let d = and-eq-true-iff (not (eqb i (s - 1))) (eqb (next t s (suc i) - 1) j) .0 e in
@@ -164,15 +165,15 @@ module _ (b : Settings) (C : Checked b) (t : Tree) (s : ℕ) (S : Surveyed t s) 
 
   -- the delay of a route is its first link's and that of the route from there
   route-covers : (i : ℕ) → Linked N i → treeFigures b t s .delay i + treeFigures b t s .route (N .next i) ≤ treeFigures b t s .route i
-  unfolding treeFigures networkOf
+  unfolding treeFigures promise.networkOf siteOf printedOf
   route-covers i L =
       let n = next-node t (S .planted) s (S .sinkSome) (S .sinkKnown) (S .plain .withoutGaps s (S .sinkKnown)) (suc i) (omega arith) (node i L) (S .plain .withoutGaps (suc i) (node i L)) (other i L) in
       let z : suc (next t s (suc i) - 1) ≡ next t s (suc i) = omega (arith, n .0) in
       rw z (omega (arith, way-step (λ v. linkAt b t s v .delay .0) t (S .planted) s (S .sinkSome) (S .sinkKnown) (S .plain .withoutGaps s (S .sinkKnown)) (suc i) (omega arith) (node i L) (S .plain .withoutGaps (suc i) (node i L)) (other i L)))
 
   -- all that the theorem asks of the network and its figures
-  pub provisioned : Windows b (lines b t s) N offset → Provisioned N (treeFigures b t s)
-  unfolding networkOf treeFigures
+  pub provisioned : Windows b (lines b t s) t s offset → Provisioned N (treeFigures b t s)
+  unfolding promise.networkOf siteOf printedOf treeFigures
   provisioned O = record {
     intervalPositive = interval-positive b;
     exchangePositive = timed b C .exchangeSome;

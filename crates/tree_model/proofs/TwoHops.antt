@@ -10,17 +10,18 @@ use Rattle.network.specs.Readings.{made}
 use Rattle.network.specs.Loads.{Linked}
 use Rattle.network.specs.Examples.{reading, first, received}
 use Rattle.network.proofs.Sums.{total-ap, total-zero}
-use Rattle.row_model.specs.declared.Kind.the-variants.{EndNode, Upward, Sink}
-use Rattle.row_model.specs.Witness.{columns}
-use Rattle.row_model.proofs.Stretches.{stretch, stretch-le}
-use Rattle.tree_model.specs.declared.NodeLine.{NodeLine}
+use Rattle.plan_model.specs.declared.Kind.the-variants.{EndNode, Upward, Sink}
+use Rattle.plan_model.specs.Lines.{columns}
+use Rattle.network.proofs.Stretches.{stretch, stretch-le}
+use Rattle.plan_model.specs.declared.NodeLine.{NodeLine}
 use Rattle.tree_model.specs.Lines.{lines}
-use Rattle.tree_model.specs.Promise.{networkOf, Windows, Readings}
+use Rattle.tree_model.specs.Promise.{networkOf, Windows, Readings, siteOf, printedOf}
 use Rattle.tree_model.specs.Laws.{Surveyed}
 use Rattle.tree_model.specs.Examples.{nodeColumns, table}
 use Rattle.tree_model.specs.Witness.{shorter, twoHops, hopOffsets, hopNetwork, lateReading, TwoLinks}
 use Rattle.tree_model.proofs.PlainLists.{plain-list-surveyed}
 use Rattle.tree_model.proofs.Computing.{trees, runs, printed-line}
+use Rattle.promise_model.specs.Promise as promise
 
 -- to unfold `witness` is to unfold all that it is computed with
 witness : Type 0
@@ -50,10 +51,10 @@ hop-surveyed = plain-list-surveyed (0 ∷ 0 ∷ 1 ∷ 2 ∷ []) (0 ∷ 0 ∷ 0 �
     node P a b c (suc i) one most = three (λ i. P (suc i)) a b c i (omega arith)
 
 hop-linked : (P : ℕ → Type 0) → P 0 → P 1 → P 2 → (i : ℕ) → Linked hopNetwork i → P i
-unfolding networkOf hopNetwork twoHops
+unfolding promise.networkOf siteOf printedOf hopNetwork twoHops
 hop-linked P a b c i L = three P a b c i (L .node)
 
-hop-windows : Windows shorter (lines shorter twoHops 1) hopNetwork hopOffsets
+hop-windows : Windows shorter (lines shorter twoHops 1) twoHops 1 hopOffsets
 unfolding witness
 hop-windows = hop-linked _ (lit≤ tt) (lit≤ tt) (lit≤ tt)
 
@@ -96,8 +97,8 @@ hop-total i k h x n = by (eqb 2 i) refl
 hop-stretches : (P : ℕ → ℕ → ℕ → Type 0) → ((x n : ℕ) → P 0 x n) → ((x n : ℕ) → P 1 x n) → ((x n : ℕ) → P 2 x n) → (i x n : ℕ) → i < 3 → P i x n
 hop-stretches P a b c i x n h = three (λ i. P i x n) (a x n) (b x n) (c x n) i h
 
-hop-readings : Readings shorter twoHops lateReading
-unfolding trees shorter twoHops lateReading reading
+hop-readings : Readings shorter twoHops 1 lateReading
+unfolding trees siteOf shorter twoHops lateReading reading
 hop-readings = record {
   sensors = each (lit< tt) none;
   bucket = hop-stretches

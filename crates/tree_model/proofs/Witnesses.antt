@@ -12,16 +12,17 @@ use Rattle.network.specs.Loads.{Linked}
 use Rattle.network.specs.Examples.{reading}
 use Rattle.network.proofs.Sums.{total-mul, total-mono}
 use Rattle.network.proofs.Oracles.{every-choice-is-a-run}
-use Rattle.row_model.specs.Witness.{columns}
-use Rattle.row_model.proofs.Stretches.{stretch, stretch-le}
+use Rattle.plan_model.specs.Lines.{columns}
+use Rattle.network.proofs.Stretches.{stretch, stretch-le}
 use Rattle.tree_model.specs.Lines.{lines}
-use Rattle.tree_model.specs.Promise.{networkOf, Windows, Readings}
+use Rattle.tree_model.specs.Promise.{networkOf, Windows, Readings, siteOf, printedOf}
 use Rattle.tree_model.specs.Laws.{Surveyed}
 use Rattle.tree_model.specs.Examples.{nodeColumns, table}
 use Rattle.tree_model.specs.Witness.{short, tree, offsets, network, readings, Witnessed}
 use Rattle.tree_model.proofs.PlainLists.{plain-list-surveyed}
 use Rattle.tree_model.proofs.Computing.{trees, runs}
 use Rattle.tree_model.proofs.LawsHold.{every-plan-keeps}
+use Rattle.promise_model.specs.Promise as promise
 
 -- to unfold `witness` is to unfold all that the witness is computed with
 witness : Type 0
@@ -61,10 +62,10 @@ tree-surveyed = plain-list-surveyed (0 ∷ 0 ∷ 1 ∷ 1 ∷ 1 ∷ 2 ∷ 3 ∷ [
 
 -- every linked node of the run
 linked : (P : ℕ → Type 0) → P 0 → P 1 → P 2 → P 3 → P 4 → P 5 → (i : ℕ) → Linked network i → P i
-unfolding networkOf network tree
+unfolding promise.networkOf siteOf printedOf network tree
 linked P a b c d e f i L = six P a b c d e f i (L .node)
 
-tree-windows : Windows short (lines short tree 2) network offsets
+tree-windows : Windows short (lines short tree 2) tree 2 offsets
 unfolding witness
 tree-windows = linked _ (lit≤ tt) (lit≤ tt) (lit≤ tt) (lit≤ tt) (lit≤ tt) (lit≤ tt)
 
@@ -97,8 +98,8 @@ stretches : (P : ℕ → ℕ → ℕ → Type 0) (a : (x n : ℕ) → P 0 x n) (
     → (i x n : ℕ) → i < 6 → P i x n
 stretches P a b c d e f i x n h = six (λ i. P i x n) (a x n) (b x n) (c x n) (d x n) (e x n) (f x n) i h
 
-tree-readings : Readings short tree readings
-unfolding trees short tree readings reading
+tree-readings : Readings short tree 2 readings
+unfolding trees siteOf short tree readings reading
 tree-readings = record {
   sensors = each (lit< tt) (each (lit< tt) (each (lit< tt) (each (lit< tt) none)));
   bucket = stretches
@@ -113,8 +114,8 @@ tree-readings = record {
 
 -- a frame more than BURST in symbol 0 is too many, where RATE is small
 too-many : (i k ρ : ℕ) → tree .burst (suc i) ≡ k → tree .rate (suc i) ≡ ρ → ρ < 3840 → made (reading 0 i 1 ∷ readings) 0 i ≡ suc k → i < 6
-    → Readings short tree (reading 0 i 1 ∷ readings) → ⊥
-unfolding trees short tree
+    → Readings short tree 2 (reading 0 i 1 ∷ readings) → ⊥
+unfolding trees siteOf short tree
 too-many i k ρ b r s e h R =
     let f : (0 + made (reading 0 i 1 ∷ readings) 0 i) * 3840 ≤ tree .burst (suc i) * 3840 + tree .rate (suc i) * 1 = R .bucket i 0 1 h in
     omega (arith, ap (λ (n : ℕ). n * 3840) e, ap (λ (n : ℕ). n * 3840) b)

@@ -12,10 +12,9 @@ use Rattle.measure.specs.Measures.{slots}
 use Rattle.superframe_model.specs.Orders.{reservable}
 use Rattle.links.specs.Link.{slotsOf}
 use Rattle.network.specs.Counting.{bit}
-use Rattle.settings_model.specs.declared.Settings.{Settings}
-use Rattle.settings_model.specs.Checks.{checks}
-use Rattle.row_model.specs.Times.{timingOf}
-use Rattle.row_model.specs.Checks.{superframes}
+use Rattle.settings_model.specs.declared.Radio.{Radio}
+use Rattle.settings_model.specs.Checks.{radioChecks}
+use Rattle.plan_model.specs.Times.{timingOf, superframes}
 use Rattle.tree_model.specs.Tree.{Tree, sumTo, routers}
 use Rattle.tree_model.specs.Ways.{superframeOf}
 use Rattle.tree_model.specs.Lines.{loadAt}
@@ -23,28 +22,28 @@ use Rattle.tree_model.specs.Lines.{loadAt}
 -- ---- number 6
 
 -- "more than 2^(BO − SO)" routers
-unfoldable pub routersFit : Settings → Tree → List (Condition Refusal)
+unfoldable pub routersFit : Radio → Tree → List (Condition Refusal)
 routersFit b t = condition (ltb (superframes b) (routers t)) (Superframes (routers t) (superframes b)) ∷ []
 
 -- ---- numbers 5 and 7, router by router
 
 -- the link of node v lies in the superframe of router r, and has traffic: "Links with rate 0 get no reservation". The sink has no link.
-unfoldable pub reserves : Settings → Tree → ℕ → ℕ → ℕ → Bool
+unfoldable pub reserves : Radio → Tree → ℕ → ℕ → ℕ → Bool
 reserves b t sink r v = not (eqb v sink) && eqb (superframeOf t sink v) r && ltb 0 (loadAt b t sink v .rate .0)
 
 -- the reservations in the superframe of router r, and the slots that they use
-unfoldable pub reservationsAt : Settings → Tree → ℕ → ℕ → ℕ
+unfoldable pub reservationsAt : Radio → Tree → ℕ → ℕ → ℕ
 reservationsAt b t sink r = sumTo (λ v. bit (reserves b t sink r v)) (t .nodes)
 
-unfoldable pub usedAt : Settings → Tree → ℕ → ℕ → Slots
+unfoldable pub usedAt : Radio → Tree → ℕ → ℕ → Slots
 usedAt b t sink r = slots (sumTo (λ v. bit (reserves b t sink r v) * slotsOf (timingOf b) (loadAt b t sink v .rate) .0) (t .nodes))
 
 -- L of router r, with as many reservations as it has (E2)
-unfoldable pub reservableAt : Settings → Tree → ℕ → ℕ → Slots
+unfoldable pub reservableAt : Radio → Tree → ℕ → ℕ → Slots
 reservableAt b t sink r = reservable (b .so) (reservationsAt b t sink r)
 
 -- "5 and 7 with that number as place"
-unfoldable pub routerAt : Settings → Tree → ℕ → ℕ → List (Condition Refusal)
+unfoldable pub routerAt : Radio → Tree → ℕ → ℕ → List (Condition Refusal)
 routerAt b t sink r =
     condition (ltb 7 (reservationsAt b t sink r)) (InTree (RouterReservations r (reservationsAt b t sink r)))
     ∷ condition (ltb (reservableAt b t sink r .0) (usedAt b t sink r .0)) (InTree (RouterSlots r (usedAt b t sink r) (reservableAt b t sink r)))
@@ -52,11 +51,11 @@ routerAt b t sink r =
 
 -- "router by router from the lowest number": n numbers from r on. A node without children has no reservation in a superframe of its own, so
 -- it breaks neither.
-unfoldable pub routersFrom : Settings → Tree → ℕ → ℕ → ℕ → List (Condition Refusal)
+unfoldable pub routersFrom : Radio → Tree → ℕ → ℕ → ℕ → List (Condition Refusal)
 routersFrom b t sink zero r = []
 routersFrom b t sink (suc n) r = routerAt b t sink r ++ routersFrom b t sink n (suc r)
 
 -- ---- numbers 3 to 7, in their order
 
-unfoldable pub conditions : Settings → Tree → ℕ → List (Condition Refusal)
-conditions b t sink = checks b ++ routersFit b t ++ routersFrom b t sink (t .nodes) 1
+unfoldable pub conditions : Radio → Tree → ℕ → List (Condition Refusal)
+conditions b t sink = radioChecks b ++ routersFit b t ++ routersFrom b t sink (t .nodes) 1

@@ -11,13 +11,12 @@ use Rattle.refusals.specs.declared.Refusal.the-variants.{OutOfRange, AtOdds, Su
 use Rattle.refusals.specs.declared.TreeRefusal.the-variants.{RouterReservations, RouterSlots}
 use Rattle.refusals.specs.declared.Conflict.the-variants.{Orders, FrameLength, Unacknowledged}
 use Rattle.network.specs.Counting.{bit, join}
-use Rattle.settings_model.specs.declared.Settings.{Settings}
-use Rattle.row_model.specs.Lines.{letter}
-use Rattle.row_model.specs.Witness.{columns}
-use Rattle.tree_model.specs.declared.NodeLine.{NodeLine}
+use Rattle.settings_model.specs.declared.Radio.{Radio}
+use Rattle.plan_model.specs.Lines.{letter, columns}
+use Rattle.plan_model.specs.declared.NodeLine.{NodeLine}
 use Rattle.tree_model.specs.Tree.{Tree, treeOf, isRouter, routers}
 use Rattle.tree_model.specs.Ways.{next, superframeOf, kindOf, depthOf}
-use Rattle.tree_model.specs.Beside.{beside}
+use Rattle.settings_model.specs.Checks.{radio}
 use Rattle.tree_model.specs.Lines.{lines}
 use Rattle.tree_model.specs.Checks.{reservationsAt, usedAt, reservableAt}
 use Rattle.refusals.specs.Outcome.{Planned, Refused}
@@ -33,14 +32,14 @@ unfoldable pub nodeColumns : NodeLine → List ℕ
 nodeColumns n = columns (n .line) ++ n .route .0 ∷ []
 
 -- all lines of a plan
-unfoldable pub table : Settings → Tree → ℕ → List (List ℕ)
+unfoldable pub table : Radio → Tree → ℕ → List (List ℕ)
 table b t sink = map nodeColumns (lines b t sink)
 
 -- ---- document 01's P1 and P2 as a surveyed tree
 
 -- BO 8, SO 4, HEAD 19, DATA 7, ACK 0: BI = 245760, S = 960, X = 104
-unfoldable pub common : Settings
-common = beside 8 4 19 7 0 0
+unfoldable pub common : Radio
+common = radio 8 4 19 7 0 0
 
 -- Nodes 2 and 3 are child routers of the root; the end nodes 4, 5 and 6 are of the routers 1, 2 and 3. These sense.
 unfoldable pub balancedTree : Tree
@@ -74,8 +73,8 @@ pub record BalancedTrees : Type 0 where
 -- ---- branches above, beside and below the sink
 
 -- BO 6, SO 2, HEAD 19, DATA 7, ACK 1: BI = 61440, S = 240, X = 138
-unfoldable pub acknowledged : Settings
-acknowledged = beside 6 2 19 7 1 0
+unfoldable pub acknowledged : Radio
+acknowledged = radio 6 2 19 7 1 0
 
 -- The sink, 4, stands below router 2, and that below the root, which only forwards. Router 7 with its end node 8 is below the sink. Beside
 -- its path are the end node 5 of router 2, and below the root router 3, which only forwards, with its end node 6, and router 9, of whose branch
@@ -165,18 +164,18 @@ pub record GapsAndSummaries : Type 0 where
   pub loadedSlots : map (λ r. usedAt acknowledged loadedApart 4 r .0) (1 ∷ 2 ∷ 4 ∷ 7 ∷ 9 ∷ []) ≡ 6 ∷ 7 ∷ 3 ∷ 1 ∷ 0 ∷ []
   pub loadedPlanned : outcomeOf acknowledged loadedApart 4 ≡ Planned (lines acknowledged loadedApart 4)
   -- number 6 counts the branch's router: six, where four superframes fit an interval
-  pub loadedSix : outcomeOf (beside 4 2 19 7 1 0) loadedApart 4 ≡ Refused (Superframes 6 4)
-  pub wholeSix : outcomeOf (beside 4 2 19 7 1 0) branches 4 ≡ Refused (Superframes 6 4)
+  pub loadedSix : outcomeOf (radio 4 2 19 7 1 0) loadedApart 4 ≡ Refused (Superframes 6 4)
+  pub wholeSix : outcomeOf (radio 4 2 19 7 1 0) branches 4 ≡ Refused (Superframes 6 4)
   -- a summary of rate 0 has no reservation, and its router counts
   pub silentLines : table acknowledged silentApart 4 ≡ linesOfWhole (0 ∷ 1 ∷ 2 ∷ 3 ∷ 4 ∷ 5 ∷ 6 ∷ 7 ∷ [])
   pub silentReservations : map (reservationsAt acknowledged silentApart 4) (1 ∷ 2 ∷ 3 ∷ 4 ∷ 7 ∷ []) ≡ 2 ∷ 2 ∷ 1 ∷ 1 ∷ 1 ∷ []
-  pub silentSix : outcomeOf (beside 4 2 19 7 1 0) silentApart 4 ≡ Refused (Superframes 6 4)
+  pub silentSix : outcomeOf (radio 4 2 19 7 1 0) silentApart 4 ≡ Refused (Superframes 6 4)
 
 -- ---- tries that may fail (document 02, E5)
 
 -- P1's tree with ACK 1 and LOSS 2: X = 138, and an exchange lasts 138 + 2 × 158 = 454 of the 960 symbols of a slot
-unfoldable pub twoFailures : Settings
-twoFailures = beside 8 4 19 7 1 2
+unfoldable pub twoFailures : Radio
+twoFailures = radio 8 4 19 7 1 2
 
 pub record WithLoss : Type 0 where
   pub printed : table twoFailures balancedTree 1
@@ -189,8 +188,8 @@ pub record WithLoss : Type 0 where
       ∷ []
   pub planned : outcomeOf twoFailures balancedTree 1 ≡ Planned (lines twoFailures balancedTree 1)
   -- with LOSS 1 each of two end nodes takes 4 slots of 60 for an exchange of 94 + 114, 8 of 7 together, where 2 are enough without loss
-  pub tooLong : outcomeOf (beside 3 0 17 1 1 1) (treeOf (0 ∷ 0 ∷ 1 ∷ 1 ∷ []) (0 ∷ 0 ∷ 1 ∷ 1 ∷ []) (0 ∷ 0 ∷ 1 ∷ 1 ∷ [])) 1 ≡ Refused (InTree (RouterSlots 1 (slots 8) (slots 7)))
-  pub without : usedAt (beside 3 0 17 1 1 0) (treeOf (0 ∷ 0 ∷ 1 ∷ 1 ∷ []) (0 ∷ 0 ∷ 1 ∷ 1 ∷ []) (0 ∷ 0 ∷ 1 ∷ 1 ∷ [])) 1 1 .0 ≡ 4
+  pub tooLong : outcomeOf (radio 3 0 17 1 1 1) (treeOf (0 ∷ 0 ∷ 1 ∷ 1 ∷ []) (0 ∷ 0 ∷ 1 ∷ 1 ∷ []) (0 ∷ 0 ∷ 1 ∷ 1 ∷ [])) 1 ≡ Refused (InTree (RouterSlots 1 (slots 8) (slots 7)))
+  pub without : usedAt (radio 3 0 17 1 1 0) (treeOf (0 ∷ 0 ∷ 1 ∷ 1 ∷ []) (0 ∷ 0 ∷ 1 ∷ 1 ∷ []) (0 ∷ 0 ∷ 1 ∷ 1 ∷ [])) 1 1 .0 ≡ 4
 
 -- ---- without traffic
 
@@ -221,39 +220,39 @@ chain = treeOf (0 ∷ 0 ∷ 1 ∷ 2 ∷ []) (0 ∷ 0 ∷ 0 ∷ 1 ∷ []) (0 ∷ 
 
 pub record SettingsRefused : Type 0 where
   -- 3 at document 01's columns, just outside each range
-  pub order : outcomeOf (beside 15 4 19 7 0 0) lone 1 ≡ Refused (OutOfRange 1 15)
-  pub superframeOrder : outcomeOf (beside 14 15 19 7 0 0) lone 1 ≡ Refused (OutOfRange 2 15)
-  pub shortHead : outcomeOf (beside 8 4 4 7 0 0) lone 1 ≡ Refused (OutOfRange 10 4)
-  pub longHead : outcomeOf (beside 8 4 127 7 0 0) lone 1 ≡ Refused (OutOfRange 10 127)
-  pub noPayload : outcomeOf (beside 8 4 19 0 0 0) lone 1 ≡ Refused (OutOfRange 11 0)
-  pub longPayload : outcomeOf (beside 8 4 5 123 0 0) lone 1 ≡ Refused (OutOfRange 11 123)
-  pub acknowledgement : outcomeOf (beside 8 4 19 7 2 0) lone 1 ≡ Refused (OutOfRange 12 2)
-  pub loss : outcomeOf (beside 8 4 19 7 1 8) lone 1 ≡ Refused (OutOfRange 13 8)
+  pub order : outcomeOf (radio 15 4 19 7 0 0) lone 1 ≡ Refused (OutOfRange 1 15)
+  pub superframeOrder : outcomeOf (radio 14 15 19 7 0 0) lone 1 ≡ Refused (OutOfRange 2 15)
+  pub shortHead : outcomeOf (radio 8 4 4 7 0 0) lone 1 ≡ Refused (OutOfRange 10 4)
+  pub longHead : outcomeOf (radio 8 4 127 7 0 0) lone 1 ≡ Refused (OutOfRange 10 127)
+  pub noPayload : outcomeOf (radio 8 4 19 0 0 0) lone 1 ≡ Refused (OutOfRange 11 0)
+  pub longPayload : outcomeOf (radio 8 4 5 123 0 0) lone 1 ≡ Refused (OutOfRange 11 123)
+  pub acknowledgement : outcomeOf (radio 8 4 19 7 2 0) lone 1 ≡ Refused (OutOfRange 12 2)
+  pub loss : outcomeOf (radio 8 4 19 7 1 8) lone 1 ≡ Refused (OutOfRange 13 8)
   -- the lowest column answers
-  pub lowestColumn : outcomeOf (beside 8 15 4 0 2 0) lone 1 ≡ Refused (OutOfRange 2 15)
+  pub lowestColumn : outcomeOf (radio 8 15 4 0 2 0) lone 1 ≡ Refused (OutOfRange 2 15)
   -- 4
-  pub ordersAtOdds : outcomeOf (beside 4 8 19 7 0 0) lone 1 ≡ Refused (AtOdds (Orders 8 4))
-  pub frameAtOdds : outcomeOf (beside 8 4 126 2 0 0) lone 1 ≡ Refused (AtOdds (FrameLength 126 2))
-  pub frameLongest : outcomeOf (beside 8 4 126 1 0 0) lone 1 ≡ Planned (lines (beside 8 4 126 1 0 0) lone 1)
-  pub unacknowledged : outcomeOf (beside 8 4 19 7 0 1) lone 1 ≡ Refused (AtOdds (Unacknowledged 1 0))
-  pub mostLoss : outcomeOf (beside 8 4 19 7 1 7) lone 1 ≡ Planned (lines (beside 8 4 19 7 1 7) lone 1)
-  pub frameFirst : outcomeOf (beside 8 4 126 2 0 1) lone 1 ≡ Refused (AtOdds (FrameLength 126 2))
-  pub ordersFirst : outcomeOf (beside 4 8 126 2 0 0) lone 1 ≡ Refused (AtOdds (Orders 8 4))
+  pub ordersAtOdds : outcomeOf (radio 4 8 19 7 0 0) lone 1 ≡ Refused (AtOdds (Orders 8 4))
+  pub frameAtOdds : outcomeOf (radio 8 4 126 2 0 0) lone 1 ≡ Refused (AtOdds (FrameLength 126 2))
+  pub frameLongest : outcomeOf (radio 8 4 126 1 0 0) lone 1 ≡ Planned (lines (radio 8 4 126 1 0 0) lone 1)
+  pub unacknowledged : outcomeOf (radio 8 4 19 7 0 1) lone 1 ≡ Refused (AtOdds (Unacknowledged 1 0))
+  pub mostLoss : outcomeOf (radio 8 4 19 7 1 7) lone 1 ≡ Planned (lines (radio 8 4 19 7 1 7) lone 1)
+  pub frameFirst : outcomeOf (radio 8 4 126 2 0 1) lone 1 ≡ Refused (AtOdds (FrameLength 126 2))
+  pub ordersFirst : outcomeOf (radio 4 8 126 2 0 0) lone 1 ≡ Refused (AtOdds (Orders 8 4))
   -- 3 before 4, and 4 before 6: three routers, where an interval of SO above BO has room for none
-  pub threeBeforeFour : outcomeOf (beside 4 8 19 7 2 0) lone 1 ≡ Refused (OutOfRange 12 2)
-  pub fourBeforeSix : outcomeOf (beside 4 8 19 7 0 0) balancedTree 1 ≡ Refused (AtOdds (Orders 8 4))
-  pub frameBeforeSix : outcomeOf (beside 4 4 126 2 0 0) balancedTree 1 ≡ Refused (AtOdds (FrameLength 126 2))
-  pub lossBeforeSix : outcomeOf (beside 4 4 19 7 0 1) balancedTree 1 ≡ Refused (AtOdds (Unacknowledged 1 0))
+  pub threeBeforeFour : outcomeOf (radio 4 8 19 7 2 0) lone 1 ≡ Refused (OutOfRange 12 2)
+  pub fourBeforeSix : outcomeOf (radio 4 8 19 7 0 0) balancedTree 1 ≡ Refused (AtOdds (Orders 8 4))
+  pub frameBeforeSix : outcomeOf (radio 4 4 126 2 0 0) balancedTree 1 ≡ Refused (AtOdds (FrameLength 126 2))
+  pub lossBeforeSix : outcomeOf (radio 4 4 19 7 0 1) balancedTree 1 ≡ Refused (AtOdds (Unacknowledged 1 0))
   -- 6: three routers where two superframes fit an interval, and two where two fit
-  pub tooManyRouters : outcomeOf (beside 5 4 19 7 0 0) balancedTree 1 ≡ Refused (Superframes 3 2)
-  pub rootIsRouter : outcomeOf (beside 4 4 19 7 0 0) chain 1 ≡ Refused (Superframes 2 1)
-  pub justMet : outcomeOf (beside 5 4 19 7 0 0) chain 1 ≡ Planned (lines (beside 5 4 19 7 0 0) chain 1)
+  pub tooManyRouters : outcomeOf (radio 5 4 19 7 0 0) balancedTree 1 ≡ Refused (Superframes 3 2)
+  pub rootIsRouter : outcomeOf (radio 4 4 19 7 0 0) chain 1 ≡ Refused (Superframes 2 1)
+  pub justMet : outcomeOf (radio 5 4 19 7 0 0) chain 1 ≡ Planned (lines (radio 5 4 19 7 0 0) chain 1)
 
 -- ---- numbers 5 and 7
 
 -- BO 3, SO 0, HEAD 17, DATA 1, ACK 0: S = X = 60, so a link takes as many slots as its rate; L is 7 of a router with 1 to 10 reservations
-unfoldable pub whole : Settings
-whole = beside 3 0 17 1 0 0
+unfoldable pub whole : Radio
+whole = radio 3 0 17 1 0 0
 
 -- a root with as many end nodes as the list has entries, which are their BURST and RATE
 unfoldable pub star : List ℕ → Tree
@@ -298,7 +297,7 @@ pub record RoutersRefused : Type 0 where
   pub fiveBeforeSeven : outcomeOf whole (star eight) 1 ≡ Refused (InTree (RouterReservations 1 8))
   -- "router by router from the lowest number": 7 of router 2 before 5 of router 3, and 6 before both
   pub lowestRouter : outcomeOf whole bothBroken 2 ≡ Refused (InTree (RouterSlots 2 (slots 8) (slots 7)))
-  pub sixBeforeSeven : outcomeOf (beside 1 0 17 1 0 0) bothBroken 2 ≡ Refused (Superframes 3 2)
+  pub sixBeforeSeven : outcomeOf (radio 1 0 17 1 0 0) bothBroken 2 ≡ Refused (Superframes 3 2)
   -- A downward link lies in its own node's superframe: 1 and 4 slots in the root's, 6 in router 2's, 2 in the sink's. With 6 more of router 2's
   -- link the root's or the sink's superframe would have too many.
   pub ownSlots : map (λ r. usedAt whole twoDown 3 r .0) (1 ∷ 2 ∷ 3 ∷ []) ≡ 5 ∷ 6 ∷ 2 ∷ []
@@ -307,4 +306,4 @@ pub record RoutersRefused : Type 0 where
   pub ownRefused : outcomeOf whole fullBelow 3 ≡ Refused (InTree (RouterSlots 2 (slots 9) (slots 7)))
   -- each router's own L: of the root and router 2 with one reservation each, and of router 3 with none
   pub shortSlots : map (λ r. reservableAt whole oneSilent 1 r .0) (1 ∷ 2 ∷ 3 ∷ []) ≡ 7 ∷ 7 ∷ 8 ∷ []
-  pub longSlots : map (λ r. reservableAt (beside 8 3 19 7 0 0) oneSilent 1 r .0) (1 ∷ 2 ∷ 3 ∷ []) ≡ 14 ∷ 14 ∷ 15 ∷ []
+  pub longSlots : map (λ r. reservableAt (radio 8 3 19 7 0 0) oneSilent 1 r .0) (1 ∷ 2 ∷ 3 ∷ []) ≡ 14 ∷ 14 ∷ 15 ∷ []

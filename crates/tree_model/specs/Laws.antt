@@ -4,26 +4,27 @@ use mathlib.Core.Path.{_≡_}
 use mathlib.Core.Logic.{_↔_}
 use mathlib.Core.Bool.{false}
 use mathlib.Core.List.{List, [], _∷_}
-use Prim.Native.Nat.{ℕ, suc, _≤_, _<_, _^_}
+use Prim.Native.Nat.{ℕ, suc, _+_, _≤_, _<_, _^_}
 use Rattle.superframe_model.specs.Reservation.{Smallest}
 use Rattle.network.specs.Counting.{All, bit, join}
+use Rattle.network.specs.Model.{Network, State, queue}
+use Rattle.network.specs.Readings.{Reading}
 use Rattle.measure.specs.Measures.{frames, burst}
 use Rattle.links.specs.declared.Load.{Load}
 use Rattle.links.specs.Link.{load, after}
-use Rattle.settings_model.specs.declared.Settings.{Settings}
-use Rattle.settings_model.specs.Laws.{Checked}
-use Rattle.row_model.specs.declared.Kind.the-variants.{Sink}
-use Rattle.row_model.specs.Times.{timingOf}
-use Rattle.row_model.specs.Checks.{superframes}
-use Rattle.row_model.specs.Lines.{sameKind}
-use Rattle.tree_model.specs.declared.NodeLine.{NodeLine}
+use Rattle.settings_model.specs.declared.Radio.{Radio}
+use Rattle.settings_model.specs.Laws.{CheckedRadio}
+use Rattle.plan_model.specs.declared.Kind.the-variants.{Sink}
+use Rattle.plan_model.specs.Times.{timingOf, superframes}
+use Rattle.plan_model.specs.Lines.{sameKind}
+use Rattle.plan_model.specs.declared.NodeLine.{NodeLine}
 use Rattle.tree_model.specs.Tree.{Tree, treeOf, Planted, Ranged, Plain, sumTo, isRouter, routers}
 use Rattle.tree_model.specs.Loads.{sensed, leaving}
 use Rattle.tree_model.specs.Lines.{loadAt, lineAt, lines}
 use Rattle.tree_model.specs.Checks.{reservationsAt, usedAt, reservableAt}
 use Rattle.refusals.specs.Outcome.{Planned}
 use Rattle.tree_model.specs.Outcome.{outcomeOf}
-use Rattle.tree_model.specs.Promise.{networkOf, Windows, Keeps}
+use Rattle.tree_model.specs.Promise.{longest, Windows, Held, Keeps}
 
 -- a tree that keeps number 10: its node list keeps every rule, numbers its nodes 1, 2, .., and the sink is one of them
 pub record Surveyed (t : Tree) (sink : ℕ) : Type 0 where
@@ -47,7 +48,7 @@ PlainListSurveyed = (parents bursts rates : List ℕ) (sink : ℕ) → Consecuti
     → 1 ≤ sink → sink ≤ treeOf parents bursts rates .nodes → Surveyed (treeOf parents bursts rates) sink
 
 -- and what is defined for gaps and summaries is of a plain tree what E3 has
-pub record AsInE3 (b : Settings) (t : Tree) (sink : ℕ) : Type 0 where
+pub record AsInE3 (b : Radio) (t : Tree) (sink : ℕ) : Type 0 where
   -- "a line per node, in node order"
   pub lines : lines b t sink ≡ join (t .nodes) (λ i. lineAt b t sink (suc i) ∷ [])
   -- number 6 counts the list's own routers
@@ -57,26 +58,26 @@ pub record AsInE3 (b : Settings) (t : Tree) (sink : ℕ) : Type 0 where
   pub leaving : (w : ℕ) (l : Load) → leaving (timingOf b) t w l ≡ after (timingOf b) l
 
 abbrev pub PlainAsInE3 : Type 0
-PlainAsInE3 = (b : Settings) (t : Tree) (sink : ℕ) → Plain t → AsInE3 b t sink
+PlainAsInE3 = (b : Radio) (t : Tree) (sink : ℕ) → Plain t → AsInE3 b t sink
 
 -- ---- demand 2
 
 -- numbers 3 to 7 as propositions
-pub record Plannable (b : Settings) (t : Tree) (sink : ℕ) : Type 0 where
-  pub checked : Checked b
+pub record Plannable (b : Radio) (t : Tree) (sink : ℕ) : Type 0 where
+  pub checked : CheckedRadio b
   pub routers : routers t ≤ superframes b
   pub reservations : (r : ℕ) → 1 ≤ r → r ≤ t .nodes → reservationsAt b t sink r ≤ 7
   pub used : (r : ℕ) → 1 ≤ r → r ≤ t .nodes → usedAt b t sink r .0 ≤ reservableAt b t sink r .0
 
 -- planned exactly where all conditions hold, and then with the lines of the recurrences
 abbrev pub PlannedExactly : Type 0
-PlannedExactly = (b : Settings) (t : Tree) (sink : ℕ) (p : List NodeLine)
+PlannedExactly = (b : Radio) (t : Tree) (sink : ℕ) (p : List NodeLine)
     → (outcomeOf b t sink ≡ Planned p) ↔ (Plannable b t sink × (lines b t sink ≡ p))
 
 -- "no reservation has a slot more than its rate needs": on every line but the sink's SLOTS is the smallest count that holds RATE, also where
 -- RATE is 0
 abbrev pub NoSlotTooMany : Type 0
-NoSlotTooMany = (b : Settings) (t : Tree) (sink : ℕ) (p : List NodeLine) → outcomeOf b t sink ≡ Planned p
+NoSlotTooMany = (b : Radio) (t : Tree) (sink : ℕ) (p : List NodeLine) → outcomeOf b t sink ≡ Planned p
     → All (λ l. sameKind (l .line .kind) Sink ≡ false → Smallest (l .line .figures .rate) (timingOf b .slot) (timingOf b .exchange) (l .line .figures .slots)) p
 
 -- the bound on every load, also of a tree that 5 or 7 refuses: the rate is at most that of all sensors together, the burst below 2^53
@@ -85,16 +86,21 @@ pub record Bounded (a : Load) : Type 0 where
   pub burst : a .burst .0 < 2 ^ 53
 
 abbrev pub EveryLoadBounded : Type 0
-EveryLoadBounded = (b : Settings) (t : Tree) (sink : ℕ) → Checked b → Surveyed t sink
+EveryLoadBounded = (b : Radio) (t : Tree) (sink : ℕ) → CheckedRadio b → Surveyed t sink
     → (v : ℕ) → 1 ≤ v → v ≤ t .nodes → Bounded (loadAt b t sink v)
 
 -- ---- demand 3
 
 -- every planned tree keeps its promise
 abbrev pub EveryPlanKeeps : Type 0
-EveryPlanKeeps = (b : Settings) (t : Tree) (sink : ℕ) (p : List NodeLine) → Surveyed t sink → outcomeOf b t sink ≡ Planned p → Keeps b t sink p
+EveryPlanKeeps = (b : Radio) (t : Tree) (sink : ℕ) (p : List NodeLine) → Surveyed t sink → outcomeOf b t sink ≡ Planned p → Keeps b t sink p
+
+-- E3: "with the largest ROUTE as its delay". Where the promise holds, no frame is on its way longer than that
+abbrev pub LargestRouteHolds : Type 0
+LargestRouteHolds = (p : List NodeLine) (sink : ℕ) (N : Network) (l : List Reading) (u : ℕ) (now : State) → Held p sink N l u now
+    → ((v : ℕ) → v < N .nodes → All (λ f. u ≤ f .made + longest p) (queue now v)) × All (λ f. f .came ≤ f .made + longest p) (now .received)
 
 -- it is a promise about something: all windows fit, each for instance at the interval's start
 abbrev pub WindowsExist : Type 0
-WindowsExist = (b : Settings) (t : Tree) (sink : ℕ) (p : List NodeLine) → Surveyed t sink → outcomeOf b t sink ≡ Planned p
-    → Windows b p (networkOf b p t sink (λ i. 0)) (λ i. 0)
+WindowsExist = (b : Radio) (t : Tree) (sink : ℕ) (p : List NodeLine) → Surveyed t sink → outcomeOf b t sink ≡ Planned p
+    → Windows b p t sink (λ i. 0)

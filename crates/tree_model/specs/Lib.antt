@@ -5,8 +5,6 @@ pub mod Tree
 pub mod Ways
 -- loads
 pub mod Loads
--- the settings beside
-pub mod Beside
 -- the lines, ROUTE
 pub mod Lines
 -- numbers 3 to 7

@@ -4,8 +4,8 @@ use mathlib.Core.Path.{_≡_}
 use mathlib.Core.Bool.{true, false, cond}
 use Prim.Native.Nat.{ℕ, zero, suc, _≤_}
 use lib.Dec.{eqb, leb}
-use Rattle.row_model.specs.declared.Kind.{Kind}
-use Rattle.row_model.specs.declared.Kind.the-variants.{EndNode, Upward, Downward, Sink}
+use Rattle.plan_model.specs.declared.Kind.{Kind}
+use Rattle.plan_model.specs.declared.Kind.the-variants.{EndNode, Upward, Downward, Sink}
 use Rattle.tree_model.specs.Tree.{Tree, isRouter, feeds}
 
 -- the node on the way up from c whose parent is v, or 0 where v is not above c; k bounds the way

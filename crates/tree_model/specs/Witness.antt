@@ -9,24 +9,23 @@ use Rattle.network.specs.Counting.{All}
 use Rattle.network.specs.Model.{Network, queue}
 use Rattle.network.specs.Readings.{Reading}
 use Rattle.network.specs.Oracle.{run}
-use Rattle.network.specs.Examples.{reading, first, received}
-use Rattle.settings_model.specs.declared.Settings.{Settings}
-use Rattle.row_model.specs.Times.{timingOf}
-use Rattle.row_model.specs.Witness.{lengthsAt, soonFrom}
+use Rattle.network.specs.Examples.{reading, first, received, lengthsAt, soonFrom}
+use Rattle.settings_model.specs.declared.Radio.{Radio}
+use Rattle.plan_model.specs.Times.{timingOf}
 use Rattle.tree_model.specs.Tree.{Tree, treeOf}
-use Rattle.tree_model.specs.Beside.{beside}
+use Rattle.settings_model.specs.Checks.{radio}
 use Rattle.tree_model.specs.Lines.{lines}
 use Rattle.refusals.specs.Outcome.{Planned}
 use Rattle.tree_model.specs.Outcome.{outcomeOf}
-use Rattle.tree_model.specs.Promise.{printed, route, longest, networkOf, Windows, Readings, Held}
+use Rattle.tree_model.specs.Promise.{figuresIn, routeIn, longest, networkOf, Windows, Readings, Held}
 use Rattle.tree_model.specs.Laws.{Surveyed}
 use Rattle.tree_model.specs.Examples.{table}
 
 -- ---- a tree with its sink below the root, in which every node senses
 
 -- BO 2, SO 0, HEAD 5, DATA 1, ACK 0: BI = 3840, S = 60, X = 36
-unfoldable pub short : Settings
-short = beside 2 0 5 1 0 0
+unfoldable pub short : Radio
+short = radio 2 0 5 1 0 0
 
 -- The sink, 2, and router 3 are child routers of the root. Of the end nodes, 4 is the root's, 5 the sink's, 6 router 3's. The sink has BURST 2,
 -- node 6 BURST 2 and RATE 2, and all others BURST 1 and RATE 1.
@@ -63,31 +62,31 @@ pub record Witnessed : Type 0 where
   pub neighbours : map (network .next) (0 ∷ 2 ∷ 3 ∷ 4 ∷ 5 ∷ []) ≡ 1 ∷ 0 ∷ 0 ∷ 1 ∷ 2 ∷ []
   pub exchanges : map (network .holds) (0 ∷ 2 ∷ 3 ∷ 4 ∷ 5 ∷ []) ≡ 5 ∷ 3 ∷ 1 ∷ 1 ∷ 3 ∷ []
   -- all windows fit the interval, and node 5's ends with it
-  pub windowsFit : Windows short (lines short tree 2) network offsets
-  pub lastWindow : offsets 4 + printed (lines short tree 2) 4 .slots .0 * timingOf short .slot .0 ≡ timingOf short .interval .0
+  pub windowsFit : Windows short (lines short tree 2) tree 2 offsets
+  pub lastWindow : offsets 4 + figuresIn (lines short tree 2) 4 .slots .0 * timingOf short .slot .0 ≡ timingOf short .interval .0
   -- the readings keep their nodes' token buckets, but would not with one frame more of any of them in the same symbol
-  pub keepBuckets : Readings short tree readings
-  pub atTheLimit : All (λ i. ¬ Readings short tree (reading 0 i 1 ∷ readings)) (5 ∷ 2 ∷ 0 ∷ 1 ∷ [])
+  pub keepBuckets : Readings short tree 2 readings
+  pub atTheLimit : All (λ i. ¬ Readings short tree 2 (reading 0 i 1 ∷ readings)) (5 ∷ 2 ∷ 0 ∷ 1 ∷ [])
   -- what the sink received through symbol 255: sensor, symbol made and symbol come, frame by frame
   pub arrived : received network readings first 255
       ≡ 1 ∷ 0 ∷ 0 ∷ 1 ∷ 0 ∷ 0 ∷ 0 ∷ 0 ∷ 147 ∷ 2 ∷ 0 ∷ 183 ∷ 5 ∷ 0 ∷ 219 ∷ 5 ∷ 0 ∷ 255 ∷ []
   -- none of these frames was on its way longer than ROUTE of the node that made it, nor than the largest ROUTE, node 6's
-  pub inTime : All (λ f. f .came ≤ f .made + route (lines short tree 2) (f .sensor)) (run network readings first 256 .received)
+  pub inTime : All (λ f. f .came ≤ f .made + routeIn (lines short tree 2) (f .sensor) .0) (run network readings first 256 .received)
   pub largestRoute : longest (lines short tree 2) ≡ 28696
   -- Router 3's queue at the end of some symbols: the frame that it sends in 38 fills its place through 73.
   pub routersQueue : lengthsAt network readings 2 (0 ∷ 36 ∷ 37 ∷ 38 ∷ 72 ∷ 73 ∷ 74 ∷ 110 ∷ 145 ∷ 146 ∷ []) ≡ 1 ∷ 1 ∷ 2 ∷ 2 ∷ 2 ∷ 3 ∷ 2 ∷ 1 ∷ 1 ∷ 0 ∷ []
   -- the root's: the frame that it sends in 111 fills its place through 146
   pub rootsQueue : lengthsAt network readings 0 (0 ∷ 73 ∷ 74 ∷ 109 ∷ 110 ∷ 111 ∷ 145 ∷ 146 ∷ 147 ∷ 183 ∷ 219 ∷ 255 ∷ []) ≡ 1 ∷ 1 ∷ 2 ∷ 2 ∷ 3 ∷ 3 ∷ 3 ∷ 4 ∷ 3 ∷ 2 ∷ 1 ∷ 0 ∷ []
   -- BUFFER of their lines
-  pub buffers : map (λ i. printed (lines short tree 2) i .buffer .0) (2 ∷ 0 ∷ []) ≡ 8 ∷ 16 ∷ []
+  pub buffers : map (λ i. figuresIn (lines short tree 2) i .buffer .0) (2 ∷ 0 ∷ []) ≡ 8 ∷ 16 ∷ []
   -- demand 3 of this run, at the end of every symbol, whichever of several frames goes first
-  pub kept : (pick : ℕ → ℕ → ℕ) (u : ℕ) → Held short (lines short tree 2) network readings u (run network readings pick (suc u))
+  pub kept : (pick : ℕ → ℕ → ℕ) (u : ℕ) → Held (lines short tree 2) 2 network readings u (run network readings pick (suc u))
 
 -- ---- a queue that is filled to BUFFER
 
 -- BO 0, SO 0, HEAD 17, DATA 1, ACK 0: BI = 960, S = X = 60
-unfoldable pub shortest : Settings
-shortest = beside 0 0 17 1 0 0
+unfoldable pub shortest : Radio
+shortest = radio 0 0 17 1 0 0
 
 -- the root, which is the sink, and its end node with BURST 1 and RATE 2: β = 960, ρ = 2, m = 2 and T = 960
 unfoldable pub pair : Tree
@@ -109,18 +108,18 @@ pub record Filled : Type 0 where
   pub columns : table shortest pair 1
       ≡ (83 ∷ 0 ∷ 2 ∷ 2880 ∷ 0 ∷ 0 ∷ 0 ∷ 3 ∷ 0 ∷ 0 ∷ []) ∷ (69 ∷ 1 ∷ 2 ∷ 960 ∷ 2 ∷ 2 ∷ 960 ∷ 3 ∷ 1440 ∷ 1440 ∷ []) ∷ []
   -- its window fits, and the readings keep the token buckets
-  pub windowsFit : Windows shortest (lines shortest pair 1) pairNetwork (λ i. 0)
-  pub keepBuckets : Readings shortest pair fullReadings
+  pub windowsFit : Windows shortest (lines shortest pair 1) pair 1 (λ i. 0)
+  pub keepBuckets : Readings shortest pair 1 fullReadings
   -- at the end of symbol 1019 the first frame is still on the air, and the queue is full
-  pub full : length (queue (run pairNetwork fullReadings first 1020) 1) ≡ printed (lines shortest pair 1) 1 .buffer .0
+  pub full : length (queue (run pairNetwork fullReadings first 1020) 1) ≡ figuresIn (lines shortest pair 1) 1 .buffer .0
   -- That frame came 960 symbols after it was made: β / m = 480 symbols without T would be too few.
   pub arrived : received pairNetwork fullReadings first 1020 ≡ 1 ∷ 60 ∷ 1020 ∷ []
 
 -- ---- tries that may fail (document 02, E5)
 
 -- BO 0, SO 0, HEAD 5, DATA 1, ACK 1, LOSS 1: BI = 960, S = 60, X = 70, so that an exchange with one failed try of 90 lasts 160
-unfoldable pub lossy : Settings
-lossy = beside 0 0 5 1 1 1
+unfoldable pub lossy : Radio
+lossy = radio 0 0 5 1 1 1
 
 -- the end node's starts: 0, 160, 960, 1120 and so on
 unfoldable pub lossyNetwork : Network
@@ -134,18 +133,18 @@ pub record Lossy : Type 0 where
   pub planned : outcomeOf lossy pair 1 ≡ Planned (lines lossy pair 1)
   pub columns : table lossy pair 1
       ≡ (83 ∷ 0 ∷ 2 ∷ 2880 ∷ 0 ∷ 0 ∷ 0 ∷ 3 ∷ 0 ∷ 0 ∷ []) ∷ (69 ∷ 1 ∷ 2 ∷ 960 ∷ 6 ∷ 2 ∷ 960 ∷ 3 ∷ 1440 ∷ 1440 ∷ []) ∷ []
-  pub windowsFit : Windows lossy (lines lossy pair 1) lossyNetwork (λ i. 0)
-  pub keepBuckets : Readings lossy pair lossyReadings
+  pub windowsFit : Windows lossy (lines lossy pair 1) pair 1 (λ i. 0)
+  pub keepBuckets : Readings lossy pair 1 lossyReadings
   -- "a frame counts as received when its exchange ends": the first frame is sent in symbol 960 and fills its place through 1119, when the queue
   -- is full, and it comes to the sink in 1120
-  pub full : length (queue (run lossyNetwork lossyReadings first 1120) 1) ≡ printed (lines lossy pair 1) 1 .buffer .0
+  pub full : length (queue (run lossyNetwork lossyReadings first 1120) 1) ≡ figuresIn (lines lossy pair 1) 1 .buffer .0
   pub arrived : received lossyNetwork lossyReadings first 1120 ≡ 1 ∷ 160 ∷ 1120 ∷ []
 
 -- ---- a frame that is longer on its way than its own link's DELAY
 
 -- BO 1, SO 0, HEAD 17, DATA 1, ACK 0: BI = 1920, S = X = 60
-unfoldable pub shorter : Settings
-shorter = beside 1 0 17 1 0 0
+unfoldable pub shorter : Radio
+shorter = radio 1 0 17 1 0 0
 
 -- the root, which is the sink, router 2 below it, and that one's end node 3 with BURST 1 and RATE 7
 unfoldable pub twoHops : Tree
@@ -172,6 +171,6 @@ pub record TwoLinks : Type 0 where
       ∷ (85 ∷ 1 ∷ 7 ∷ 13260 ∷ 7 ∷ 7 ∷ 1620 ∷ 13 ∷ 3515 ∷ 3515 ∷ [])
       ∷ (69 ∷ 2 ∷ 7 ∷ 1920 ∷ 7 ∷ 7 ∷ 1620 ∷ 7 ∷ 1895 ∷ 5410 ∷ [])
       ∷ []
-  pub windowsFit : Windows shorter (lines shorter twoHops 1) hopNetwork hopOffsets
-  pub keepBuckets : Readings shorter twoHops lateReading
+  pub windowsFit : Windows shorter (lines shorter twoHops 1) twoHops 1 hopOffsets
+  pub keepBuckets : Readings shorter twoHops 1 lateReading
   pub arrived : received hopNetwork lateReading first 2280 ≡ 2 ∷ 360 ∷ 2280 ∷ []

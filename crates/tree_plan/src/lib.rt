@@ -9,7 +9,6 @@ ghost use lib.Dec.{leb};
 ghost use lib.ListN.{length};
 ghost use lib.Seq.{sets};
 ghost use Rattle.refusals.specs.declared.Verdict.the-variants.{Kept};
-ghost use Rattle.tree_model.specs.Beside as definition;
 ghost use Rattle.tree_model.specs.Lines.{lines};
 ghost use Rattle.tree_model.specs.Promise.{Keeps};
 ghost use Rattle.tree_read_model.specs.Survey.{treeIn, outcomeIn};
@@ -20,35 +19,14 @@ use plan_common::refused_plan;
 use plan_model::Plan;
 use refusals::Verdict;
 use report::LONGEST_TREE;
-use settings_model::Settings;
+use settings_model::Radio;
 use tree_decide::decide;
 use tree_print::print;
 use tree_print::printed_length;
 
-// The settings beside a node list, as settings of a row: what that row has besides breaks no rule.
-pub fn beside(bo: u64, so: u64, head: u64, payload: u64, ack: u64, loss: u64) -> Settings
-    ensures { λ r. ⌜ r ≡ definition.beside bo so head payload ack loss ⌝ }
-{
-    Settings {
-        bo,
-        so,
-        h: 0,
-        nr: 0,
-        ne: 1,
-        own: 0,
-        sink: 0,
-        burst: 1,
-        rate: 1,
-        head,
-        payload,
-        ack,
-        loss,
-    }
-}
-
-// Plans the tree of a text with any settings and any sink, and puts the plan's text at the front of lent memory, as far as there is room. A
+// Plans the tree of a text with any settings beside it and any sink, and puts the plan's text at the front of lent memory, as far as there is room. A
 // refused tree leaves every byte as it was. Where it is planned, demand 3 holds of the lines.
-pub fn plan_tree(input: &[u8], b: Settings, sink: u64, out: &mut [u8]) -> Plan
+pub fn plan_tree(input: &[u8], b: Radio, sink: u64, out: &mut [u8]) -> Plan
     ensures { λ r. ⌜ r ≡ answer treeText (outcomeIn (now (input .entry)) b sink) ⌝ }
     ensures { λ r. ⌜ r .length ≤ 48576 ⌝ }
     ensures { λ _. ⌜ now (out .exit) ≡ sets (now (out .entry)) 0 (written treeText (outcomeIn (now (input .entry)) b sink)) ⌝ }
@@ -70,7 +48,7 @@ pub fn plan_tree(input: &[u8], b: Settings, sink: u64, out: &mut [u8]) -> Plan
 
 // The same, but a text that is longer than the lent memory is not put: every byte is then as it was. So a buffer of one byte asks for the
 // text's length alone, and nothing is printed.
-pub fn plan_within(input: &[u8], b: Settings, sink: u64, out: &mut [u8]) -> Plan
+pub fn plan_within(input: &[u8], b: Radio, sink: u64, out: &mut [u8]) -> Plan
     ensures { λ r. ⌜ r ≡ answer treeText (outcomeIn (now (input .entry)) b sink) ⌝ }
     ensures { λ r. ⌜ r .length ≤ 48576 ⌝ }
     ensures { λ r. ⌜ now (out .exit) ≡ cond (leb (r .length) (length (now (out .entry))))

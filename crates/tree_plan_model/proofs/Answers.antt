@@ -14,13 +14,13 @@ use Rattle.refusals.specs.declared.Verdict.the-variants.{Kept, Broken}
 use Rattle.refusals.specs.Conditions.{Unbroken, firstBroken}
 use Rattle.refusals.proofs.Answering.{verdict, first-part-answers, second-part-answers}
 use Rattle.refusals.proofs.Unbroken.{kept-unbroken, unbroken-left, unbroken-right}
-use Rattle.settings_model.specs.declared.Settings.{Settings}
-use Rattle.settings_model.specs.Checks.{checks}
-use Rattle.settings_model.specs.Laws.{Checked}
-use Rattle.settings_model.proofs.LawsHold.{unbroken-where-checked}
-use Rattle.row_model.specs.Checks.{superframes}
+use Rattle.settings_model.specs.declared.Radio.{Radio}
+use Rattle.settings_model.specs.Checks.{radioChecks}
+use Rattle.settings_model.specs.Laws.{CheckedRadio}
+use Rattle.settings_model.proofs.LawsHold.{unbroken-where-radio-checked}
+use Rattle.plan_model.specs.Times.{superframes}
 use Rattle.plan_model.specs.Plans.{answer}
-use Rattle.plan_model.proofs.Conditions.{over-limit, in-limit}
+use Rattle.refusals.proofs.Limits.{over-limit, in-limit}
 use Rattle.tree_model.specs.Tree.{Tree, treeOf, isNumber, isRouter, routers}
 use Rattle.tree_model.specs.Checks.{routersFit}
 use Rattle.tree_model.proofs.PlainLists.{planted, without-gaps}
@@ -33,11 +33,11 @@ use Rattle.tree_plan_model.specs.Lists.{Whole}
 
 -- ---- the sink's condition, 3, 4 and 6
 
-pub routers-over : (b : Settings) (t : Tree) (n k : ℕ) → n ≡ routers t → k ≡ 2 ^ (b .bo - b .so) → k < n → Broken (Superframes n k) ≡ verdict (routersFit b t)
+pub routers-over : (b : Radio) (t : Tree) (n k : ℕ) → n ≡ routers t → k ≡ 2 ^ (b .bo - b .so) → k < n → Broken (Superframes n k) ≡ verdict (routersFit b t)
 unfolding routersFit superframes
 routers-over b t n k en ek h = rw (sym en, sym ek) (over-limit k n (Superframes n k) h)
 
-pub routers-in : (b : Settings) (t : Tree) (n k : ℕ) → n ≡ routers t → k ≡ 2 ^ (b .bo - b .so) → n ≤ k → Kept ≡ verdict (routersFit b t)
+pub routers-in : (b : Radio) (t : Tree) (n k : ℕ) → n ≡ routers t → k ≡ 2 ^ (b .bo - b .so) → n ≤ k → Kept ≡ verdict (routersFit b t)
 unfolding routersFit superframes
 routers-in b t n k en ek h = rw (sym en, sym ek) (in-limit k n (Superframes n k) h)
 
@@ -49,40 +49,40 @@ pub sink-broken : (t : Tree) (sink : ℕ) → false ≡ (isNumber t sink && isRo
 unfolding sinkRight firstBroken
 sink-broken t sink e = rw (sym e)
 
-module _ (b : Settings) (t : Tree) (sink : ℕ) where
+module _ (b : Radio) (t : Tree) (sink : ℕ) where
   pub sink-first : false ≡ (isNumber t sink && isRouter t sink) → Broken (InTree SinkNode) ≡ verdict (checksBeforeSlots b t sink)
   unfolding checksBeforeSlots
   sink-first e =
-      first-part-answers Broken Kept (sinkRight t sink ++ checks b) (routersFit b t) (InTree SinkNode)
-      (sym (first-part-answers Broken Kept (sinkRight t sink) (checks b) (InTree SinkNode) (sink-broken t sink e)))
+      first-part-answers Broken Kept (sinkRight t sink ++ radioChecks b) (routersFit b t) (InTree SinkNode)
+      (sym (first-part-answers Broken Kept (sinkRight t sink) (radioChecks b) (InTree SinkNode) (sink-broken t sink e)))
 
   module _ (e : true ≡ (isNumber t sink && isRouter t sink)) where
-    pub three-four-next : (r : Refusal) → verdict (checks b) ≡ Broken r → Broken r ≡ verdict (checksBeforeSlots b t sink)
+    pub three-four-next : (r : Refusal) → verdict (radioChecks b) ≡ Broken r → Broken r ≡ verdict (checksBeforeSlots b t sink)
     unfolding checksBeforeSlots
     three-four-next r q =
-        first-part-answers Broken Kept (sinkRight t sink ++ checks b) (routersFit b t) r (sym (second-part-answers Broken Kept (sinkRight t sink) (checks b) (sink-kept t sink e)) ∙ q)
+        first-part-answers Broken Kept (sinkRight t sink ++ radioChecks b) (routersFit b t) r (sym (second-part-answers Broken Kept (sinkRight t sink) (radioChecks b) (sink-kept t sink e)) ∙ q)
 
-    pub six-next : verdict (checks b) ≡ Kept → verdict (routersFit b t) ≡ verdict (checksBeforeSlots b t sink)
+    pub six-next : verdict (radioChecks b) ≡ Kept → verdict (routersFit b t) ≡ verdict (checksBeforeSlots b t sink)
     unfolding checksBeforeSlots
     six-next k =
-        second-part-answers Broken Kept (sinkRight t sink ++ checks b) (routersFit b t) (sym (second-part-answers Broken Kept (sinkRight t sink) (checks b) (sink-kept t sink e)) ∙ k)
+        second-part-answers Broken Kept (sinkRight t sink ++ radioChecks b) (routersFit b t) (sym (second-part-answers Broken Kept (sinkRight t sink) (radioChecks b) (sink-kept t sink e)) ∙ k)
 
   -- what holds where none of these is broken
-  pub kept-checked : verdict (checks b) ≡ Kept → Checked b
-  kept-checked k = unbroken-where-checked b .0 (kept-unbroken (checks b) k)
+  pub kept-checked : verdict (radioChecks b) ≡ Kept → CheckedRadio b
+  kept-checked k = unbroken-where-radio-checked b .0 (kept-unbroken (radioChecks b) k)
 
   module _ (k : verdict (checksBeforeSlots b t sink) ≡ Kept) where
-    front : Unbroken (sinkRight t sink ++ checks b)
+    front : Unbroken (sinkRight t sink ++ radioChecks b)
     unfolding checksBeforeSlots
-    front = unbroken-left (sinkRight t sink ++ checks b) (routersFit b t) (kept-unbroken (checksBeforeSlots b t sink) k)
+    front = unbroken-left (sinkRight t sink ++ radioChecks b) (routersFit b t) (kept-unbroken (checksBeforeSlots b t sink) k)
 
-    pub before-checked : Checked b
-    before-checked = unbroken-where-checked b .0 (unbroken-right (sinkRight t sink) (checks b) front)
+    pub before-checked : CheckedRadio b
+    before-checked = unbroken-where-radio-checked b .0 (unbroken-right (sinkRight t sink) (radioChecks b) front)
 
     pub before-sink : (1 ≤ sink) × (sink ≤ t .nodes)
     unfolding sinkRight isNumber
     before-sink =
-        let u = unbroken-left (sinkRight t sink) (checks b) front in
+        let u = unbroken-left (sinkRight t sink) (radioChecks b) front in
         let d = and-eq-true-iff (leb 1 sink && leb sink (t .nodes)) (isRouter t sink) .0 (not-false _ (u .0)) in
         let e = and-eq-true-iff (leb 1 sink) (leb sink (t .nodes)) .0 (d .0) in
         (leb-true 1 sink (e .0), leb-true sink (t .nodes) (e .1))

@@ -5,7 +5,7 @@ use mathlib.Core.List.{List}
 use Prim.Native.Nat.{ℕ, zero, suc}
 use lib.Dec.{eqb}
 use lib.ListN.{getD}
-use Rattle.settings_model.specs.declared.Settings.{Settings}
+use Rattle.settings_model.specs.declared.Radio.{Radio}
 use Rattle.tree_model.specs.Tree.{Tree, treeOf, Planted, isNumber, isRouter, routers}
 use Rattle.tree_model.specs.Ways.{childBy, below, orElse, next, kindOf, depthBy, depthOf}
 use Rattle.tree_model.specs.Lines.{wayDelay}
@@ -70,10 +70,10 @@ module _ (ps bs rs : List ℕ) where
   unfolding sinkRight isNumber isRouter
   sink-same s = refl
 
-  fit-same : (b : Settings) → routersFit b (shape ps) ≡ routersFit b T
+  fit-same : (b : Radio) → routersFit b (shape ps) ≡ routersFit b T
   unfolding routersFit routers isRouter
   fit-same b = refl
 
-  pub before-slots-same : (b : Settings) (s : ℕ) → checksBeforeSlots b (shape ps) s ≡ checksBeforeSlots b T s
+  pub before-slots-same : (b : Radio) (s : ℕ) → checksBeforeSlots b (shape ps) s ≡ checksBeforeSlots b T s
   unfolding checksBeforeSlots
   before-slots-same b s = rw (sink-same s, fit-same b)

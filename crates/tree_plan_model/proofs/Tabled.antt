@@ -16,12 +16,11 @@ use Rattle.links.specs.declared.Timing.{Timing}
 use Rattle.links.specs.declared.Figures.{Figures}
 use Rattle.links.specs.declared.Load.{Load}
 use Rattle.links.specs.Link.{slotsOf}
-use Rattle.settings_model.specs.declared.Settings.{Settings}
-use Rattle.settings_model.specs.Laws.{Checked}
-use Rattle.plan_model.specs.Times.{timingAnswered}
+use Rattle.settings_model.specs.declared.Radio.{Radio}
+use Rattle.settings_model.specs.Laws.{CheckedRadio}
+use Rattle.plan_model.specs.Times.{timingAnswered, timingOf}
 use Rattle.plan_model.proofs.TimesMade.{timing-fits}
-use Rattle.row_model.specs.Times.{timingOf}
-use Rattle.row_model.proofs.LoadLaws.{timed, interval-low, exchange-low}
+use Rattle.plan_model.proofs.TimeLaws.{timed, interval-low, exchange-low}
 use Rattle.tree_model.specs.Tree.{Tree, treeOf, Plain}
 use Rattle.tree_model.specs.Ways.{next, superframeOf}
 use Rattle.tree_model.specs.Loads.{steps, entering}
@@ -38,10 +37,10 @@ use Rattle.tree_plan_model.specs.Stages.{parentsIn, burstsIn, ratesIn, L
 use Rattle.tree_plan_model.proofs.Shaped.{planted-shape, next-same, kind-same, depth-same, way-same}
 
 -- the times of checked settings are in their bounds
-pub timing-short : (b : Settings) → Checked b → Short (timingOf b)
+pub timing-short : (b : Radio) → CheckedRadio b → Short (timingOf b)
 timing-short b C = record { interval = interval-low b C; exchange = omega (arith, exchange-low b C) }
 
-module _ (b : Settings) (C : Checked b) (ps bs rs : List ℕ) (G : Listing ps bs rs) (sink : ℕ) (s1 : 1 ≤ sink) (sn : sink < length ps) (ns : List ℕ)
+module _ (b : Radio) (C : CheckedRadio b) (ps bs rs : List ℕ) (G : Listing ps bs rs) (sink : ℕ) (s1 : 1 ≤ sink) (sn : sink < length ps) (ns : List ℕ)
     (A : AllRight (timingOf b) (treeOf ps bs rs) sink ns) where
   abbrev T : Tree
   T = treeOf ps bs rs
@@ -192,7 +191,7 @@ lines-length a ps ns sink (suc n) = length-append (join n (λ i. lineIn a ps ns 
 
 -- ---- all of it, of a text and the times that were computed
 
-pub record Tabled (input : List ℕ) (b : Settings) (a : Timing) (sink : ℕ) (ns : List ℕ) : Type 0 where
+pub record Tabled (input : List ℕ) (b : Radio) (a : Timing) (sink : ℕ) (ns : List ℕ) : Type 0 where
   pub loads : Loaded a (parentsIn input) ns
   pub leads : Led (parentsIn input) ns sink
   pub routers : (n r : ℕ) → routersInFrom a (b .so) (parentsIn input) ns sink n r ≡ routersFrom b (treeIn input) sink n r
@@ -200,7 +199,7 @@ pub record Tabled (input : List ℕ) (b : Settings) (a : Timing) (sink : ℕ) (n
   pub towards : (v : ℕ) → 1 ≤ v → v ≤ treeIn input .nodes → towardsIn ns v ≡ next (treeIn input) sink v
   pub superframe : (v : ℕ) → 1 ≤ v → v ≤ treeIn input .nodes → (v ≡ sink → ⊥) → superframeIn (parentsIn input) ns v ≡ superframeOf (treeIn input) sink v
 
-pub tabled : (input : List ℕ) (b : Settings) (sink n : ℕ) (ks ns : List ℕ) (a : Timing) → a ≡ timingOf b → LoadsHeld input b sink n ks ns → Tabled input b a sink ns
+pub tabled : (input : List ℕ) (b : Radio) (sink n : ℕ) (ks ns : List ℕ) (a : Timing) → a ≡ timingOf b → LoadsHeld input b sink n ks ns → Tabled input b a sink ns
 unfolding treeIn treeFrom
 tabled input b sink n ks ns a e H =
     let ps : List ℕ = parentsIn input in
@@ -216,7 +215,7 @@ tabled input b sink n ks ns a e H =
     })
 
 -- the same of what a stage leaves: the parents are the first entries of the table of kin
-module _ (input : List ℕ) (b : Settings) (sink n : ℕ) (ks ns : List ℕ) (H : LoadsHeld input b sink n ks ns) where
+module _ (input : List ℕ) (b : Radio) (sink n : ℕ) (ks ns : List ℕ) (H : LoadsHeld input b sink n ks ns) where
   pub few-held : n ≤ 254
   unfolding treeIn treeFrom
   few-held = omega (arith, H .nodes, H .listing .planted .few)
@@ -232,5 +231,5 @@ module _ (input : List ℕ) (b : Settings) (sink n : ℕ) (ks ns : List ℕ) (H 
   tables-held a e = tabled input b sink n ks ns a (e ∙ timing-fits b (H .checked)) H
 
 -- what the walk asks for
-pub given : (b : Settings) → Checked b → (ps bs rs : List ℕ) → Listing ps bs rs → (a : Timing) → a ≡ timingOf b → Given a ps bs rs
+pub given : (b : Radio) → CheckedRadio b → (ps bs rs : List ℕ) → Listing ps bs rs → (a : Timing) → a ≡ timingOf b → Given a ps bs rs
 given b C ps bs rs G a e = rw e (record { timed = timed b C; short = timing-short b C; listing = G })

@@ -5,7 +5,7 @@ use Prim.Native.Nat.{ℕ, suc}
 use lib.Dec.{eqb}
 use lib.ListN.{length, getD}
 use Rattle.network.specs.Counting.{join}
-use Rattle.tree_model.specs.declared.NodeLine.{NodeLine}
+use Rattle.plan_model.specs.declared.NodeLine.{NodeLine}
 use Rattle.tree_model.specs.Tree.{Tree}
 use Rattle.tree_model.specs.Ways.{next, superframeOf}
 use Rattle.tree_plan_model.specs.Inner.{towardsIn}

@@ -7,8 +7,8 @@ use lib.Dec.{ltb}
 use lib.ListN.{length, getD, take, set}
 use Rattle.refusals.specs.declared.Refusal.{Refusal}
 use Rattle.refusals.specs.Conditions.{Condition}
-use Rattle.settings_model.specs.declared.Settings.{Settings}
-use Rattle.settings_model.specs.Checks.{checks}
+use Rattle.settings_model.specs.declared.Radio.{Radio}
+use Rattle.settings_model.specs.Checks.{radioChecks}
 use Rattle.links.specs.declared.Load.{Load}
 use Rattle.links.specs.declared.Timing.{Timing}
 use Rattle.links.specs.Link.{load}
@@ -44,8 +44,8 @@ pub record Given (a : Timing) (ps bs rs : List ℕ) : Type 0 where
   pub listing : Listing ps bs rs
 
 -- the conditions before numbers 5 and 7: the sink's, 3, 4 and 6
-unfoldable pub checksBeforeSlots : Settings → Tree → ℕ → List (Condition Refusal)
-checksBeforeSlots b t sink = sinkRight t sink ++ checks b ++ routersFit b t
+unfoldable pub checksBeforeSlots : Radio → Tree → ℕ → List (Condition Refusal)
+checksBeforeSlots b t sink = sinkRight t sink ++ radioChecks b ++ routersFit b t
 
 -- ---- notes
 

@@ -19,8 +19,8 @@ use Rattle.links.specs.declared.Load.{Load}
 use Rattle.links.specs.declared.Figures.{Figures}
 use Rattle.links.specs.Link.{slotsOf, figuresOf}
 use Rattle.links.specs.Answers.{Timed}
-use Rattle.row_model.specs.Lines.{none, line}
-use Rattle.tree_model.specs.declared.NodeLine.{NodeLine}
+use Rattle.plan_model.specs.Lines.{noFigures, line}
+use Rattle.plan_model.specs.declared.NodeLine.{NodeLine}
 use Rattle.tree_model.specs.Tree.{Planted, WithoutGaps, sumTo}
 use Rattle.tree_model.specs.Ways.{next, kindOf, depthOf}
 use Rattle.tree_model.specs.Loads.{steps}
@@ -105,7 +105,7 @@ routersInFrom a so ps ns sink (suc n) r = routerOf a so ps ns sink r ++ routersI
 
 -- the figures of a link, of the sink and of a node
 unfoldable pub linkFor : Timing → Load → Figures
-linkFor a l = cond (eqb (l .rate .0) 0) none (figuresOf a l)
+linkFor a l = cond (eqb (l .rate .0) 0) noFigures (figuresOf a l)
 
 unfoldable pub sinkFor : Timing → Load → Figures
 sinkFor a l = record {

@@ -10,7 +10,7 @@ use Rattle.decimal_model.specs.Ascii.{ascii}
 use Rattle.lines.specs.Text.{ended}
 use Rattle.network.specs.Counting.{join}
 use Rattle.buffer.proofs.Behind.{Put, put-behind}
-use Rattle.tree_model.specs.declared.NodeLine.{NodeLine}
+use Rattle.plan_model.specs.declared.NodeLine.{NodeLine}
 use Rattle.report_model.specs.TreeText.{treeHeader, nodeText, treeText}
 use Rattle.line_table_model.specs.Rows.{rowsIn}
 use Rattle.node_table_model.specs.NodeRows.{nodeIn, nodesIn}

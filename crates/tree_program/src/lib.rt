@@ -6,15 +6,14 @@ ghost use lib.Seq.{sets};
 ghost use Rattle.refusals.specs.declared.Verdict.the-variants.{Kept, Broken};
 ghost use Rattle.refusals.specs.declared.Refusal.the-variants.{Unreadable};
 ghost use Rattle.refusals.specs.Conditions.{firstBroken};
-ghost use Rattle.tree_program_model.specs.Output.{valueOf, lossIn, argued, argumentConditions, besideOf, sinkOf, treeOutput};
+ghost use Rattle.tree_program_model.specs.Output.{valueOf, lossIn, argued, argumentConditions, radioOf, sinkOf, treeOutput};
 use decimal_model::Number;
+use program_model::LIMIT;
 use refusals::Refusal;
 use refusals::Verdict;
 use report::put_refusal;
-use row_program::LIMIT;
-use settings_model::Settings;
+use settings_model::Radio;
 use tree_list::check_list;
-use tree_plan::beside;
 use tree_plan::plan_tree;
 use tree_program_model::Arguments;
 
@@ -28,7 +27,7 @@ pub fn put_tree_output(arguments: Arguments, input: &[u8], out: &mut [u8]) -> us
     if let Verdict::Broken(refusal) = verdict {
         return put_refusal(out, refusal);
     }
-    let plan = plan_tree(input, settings_of(arguments), sink_of(arguments), out);
+    let plan = plan_tree(input, radio_of(arguments), sink_of(arguments), out);
     let verdict = plan.verdict;
     if let Verdict::Broken(refusal) = verdict {
         return put_refusal(out, refusal);
@@ -92,8 +91,8 @@ fn unreadable(column: u32) -> Verdict
 }
 
 // The settings beside; 0 for one that cannot be read, which is refused before they are used.
-fn settings_of(arguments: Arguments) -> Settings
-    ensures { λ r. ⌜ r ≡ besideOf arguments ⌝ }
+fn radio_of(arguments: Arguments) -> Radio
+    ensures { λ r. ⌜ r ≡ radioOf arguments ⌝ }
 {
     let bo = arguments.bo;
     let so = arguments.so;
@@ -101,14 +100,14 @@ fn settings_of(arguments: Arguments) -> Settings
     let payload = arguments.payload;
     let ack = arguments.ack;
     let loss = loss_of(arguments);
-    beside(
-        value_of(bo),
-        value_of(so),
-        value_of(head),
-        value_of(payload),
-        value_of(ack),
-        value_of(loss),
-    )
+    Radio {
+        bo: value_of(bo),
+        so: value_of(so),
+        head: value_of(head),
+        payload: value_of(payload),
+        ack: value_of(ack),
+        loss: value_of(loss),
+    }
 }
 
 // LOSS: the seventh argument, or 0 where there is none.

@@ -4,18 +4,17 @@ use Rattle.decimal_model.specs.Decimal.{digitsBy, decimal}
 use Rattle.decimal_model.specs.Number.{numberIn}
 use Rattle.lines.specs.Text.{joined, ended}
 use Rattle.refusals.specs.Refusals.{conflictPlace, treeNumber, treePlace, numberOf, placeOf}
-use Rattle.row_model.specs.Lines.{letter}
+use Rattle.plan_model.specs.Lines.{letter}
 use Rattle.tree_read_model.proofs.Computing.{lists}
 use Rattle.report_model.specs.Text.{numbers, refusalText}
 use Rattle.report_model.specs.TreeText.{treeHeader, nodeText, treeText}
-use Rattle.plan_model.specs.Plans.{printed}
-use Rattle.row_program_model.specs.Output.{tooLong}
-use Rattle.tree_program_model.specs.Output.{valueOf, isUnreadable, lossIn, argued, besideOf, sinkOf, argumentConditions, callOutcome, treeOutput}
+use Rattle.program_model.specs.Printed.{printed, tooLong}
+use Rattle.tree_program_model.specs.Output.{valueOf, isUnreadable, lossIn, argued, radioOf, sinkOf, argumentConditions, callOutcome, treeOutput}
 use Rattle.tree_program_model.specs.Examples.{argumentAt, argumentsIn, balancedList, common, brokenList, examples, ours, ExamplesHold}
 
 -- to unfold `outputs` is to unfold all that an output is computed with
 outputs : Type 0
-unfolding lists digitsBy decimal numberIn joined ended conflictPlace treeNumber treePlace numberOf placeOf letter numbers refusalText treeHeader nodeText treeText tooLong valueOf isUnreadable lossIn argued besideOf sinkOf argumentConditions callOutcome printed treeOutput argumentAt argumentsIn
+unfolding lists digitsBy decimal numberIn joined ended conflictPlace treeNumber treePlace numberOf placeOf letter numbers refusalText treeHeader nodeText treeText tooLong valueOf isUnreadable lossIn argued radioOf sinkOf argumentConditions callOutcome printed treeOutput argumentAt argumentsIn
 outputs = Unit
 
 pub examples-hold : ExamplesHold

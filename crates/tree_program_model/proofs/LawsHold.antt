@@ -15,7 +15,7 @@ use Rattle.refusals.specs.declared.Verdict.the-variants.{Kept, Broken}
 use Rattle.refusals.specs.Refusals.{numberOf, placeOf}
 use Rattle.refusals.proofs.Answering.{verdict, first-part-answers}
 use Rattle.refusals.proofs.Unbroken.{unbroken-append, unbroken-left, unbroken-right}
-use Rattle.tree_model.specs.declared.NodeLine.{NodeLine}
+use Rattle.plan_model.specs.declared.NodeLine.{NodeLine}
 use Rattle.tree_model.specs.Lines.{lines}
 use Rattle.tree_model.specs.Checks.{conditions}
 use Rattle.refusals.specs.Outcome.{Planned, Refused}
@@ -27,10 +27,9 @@ use Rattle.tree_read_model.proofs.LawsHold.{every-text-keeps}
 use Rattle.report_model.specs.Text.{refusalText}
 use Rattle.report_model.specs.TreeText.{treeHeader, treeText}
 use Rattle.report_model.proofs.OneTreeText.{one-text-for-trees}
-use Rattle.plan_model.specs.Plans.{printed}
-use Rattle.row_program_model.specs.Output.{tooLong}
-use Rattle.settings_model.specs.declared.Settings.{Settings}
-use Rattle.tree_program_model.specs.Output.{lossIn, argued, besideOf, sinkOf, argumentConditions, callOutcome, treeOutput}
+use Rattle.program_model.specs.Printed.{printed, tooLong}
+use Rattle.settings_model.specs.declared.Radio.{Radio}
+use Rattle.tree_program_model.specs.Output.{lossIn, argued, radioOf, sinkOf, argumentConditions, callOutcome, treeOutput}
 use Rattle.tree_program_model.specs.Laws.{NotGivenIsZero, LongInputs, TenBeforeTwo, ReadArguments, PrintedLinesKeep}
 use Rattle.tree_program_model.proofs.Outputs.{too-long, ten-broken, two-next, call-refused, call-planned, output-refused}
 
@@ -45,12 +44,12 @@ pub read-arguments : ReadArguments
 unfolding treeOutput outcomeIn
 read-arguments a input h k = by (verdict (surveyed input (sinkOf a))) refl where
   o : TreeOutcome
-  o = outcomeIn input (besideOf a) (sinkOf a)
+  o = outcomeIn input (radioOf a) (sinkOf a)
 
   by : (v : Verdict) → verdict (surveyed input (sinkOf a)) ≡ v → treeOutput a input ≡ printed treeText o
   by Kept e = ap (printed treeText) (sym (call-planned a input (sym (two-next a input h e) ∙ k)))
   by (Broken r) e =
-      ap (printed treeText) (sym (call-refused a input r (sym (ten-broken a input h r e))) ∙ first-part-answers Refused (Planned (lines (besideOf a) (treeIn input) (sinkOf a))) (surveyed input (sinkOf a)) (conditions (besideOf a) (treeIn input) (sinkOf a)) r e)
+      ap (printed treeText) (sym (call-refused a input r (sym (ten-broken a input h r e))) ∙ first-part-answers Refused (Planned (lines (radioOf a) (treeIn input) (sinkOf a))) (surveyed input (sinkOf a)) (conditions (radioOf a) (treeIn input) (sinkOf a)) r e)
 
 -- no refusal is printed as a plan is
 no-text : (r : Refusal) (p : List NodeLine) → refusalText r ≡ treeText p → ⊥
@@ -60,8 +59,8 @@ no-text r p e = let f : _≡_ {A = ℕ} 82 75 = ap (λ (l : List ℕ). getD l 0 
 pub printed-lines-keep : PrintedLinesKeep
 unfolding treeOutput printed callOutcome argumentConditions outcomeIn
 printed-lines-keep a input p e = by (callOutcome a input) refl e where
-  b : Settings
-  b = besideOf a
+  b : Radio
+  b = radioOf a
 
   sink : ℕ
   sink = sinkOf a
@@ -83,5 +82,5 @@ printed-lines-keep a input p e = by (callOutcome a input) refl e where
 -- ---- LOSS that is not given
 
 pub not-given-is-zero : NotGivenIsZero
-unfolding treeOutput callOutcome argumentConditions argued lossIn besideOf sinkOf
+unfolding treeOutput callOutcome argumentConditions argued lossIn radioOf sinkOf
 not-given-is-zero bo so head payload ack sink loss count input h = rw (le-ltb 6 count h, le-ltb 7 count (omega arith))

@@ -13,20 +13,20 @@ use Rattle.refusals.specs.declared.Verdict.the-variants.{Kept, Broken}
 use Rattle.refusals.specs.Conditions.{Condition, firstBroken}
 use Rattle.refusals.proofs.Answering.{verdict, first-part-answers, second-part-answers}
 use Rattle.refusals.proofs.Unbroken.{kept-unbroken, unbroken-first, unbroken-left, unbroken-right}
-use Rattle.settings_model.specs.declared.Settings.{Settings}
+use Rattle.settings_model.specs.declared.Radio.{Radio}
 use Rattle.plan_model.specs.declared.Plan.{Plan}
-use Rattle.plan_model.specs.Plans.{answer, written, printed}
-use Rattle.plan_model.proofs.Answered.{refused-printed, planned-printed}
+use Rattle.plan_model.specs.Plans.{answer, written}
+use Rattle.program_model.specs.Printed.{printed, tooLong}
+use Rattle.program_model.proofs.PrintedAnswers.{refused-printed, planned-printed}
 use Rattle.report_model.specs.TreeText.{treeText}
 use Rattle.report_model.specs.Text.{refusalText}
-use Rattle.tree_model.specs.declared.NodeLine.{NodeLine}
+use Rattle.plan_model.specs.declared.NodeLine.{NodeLine}
 use Rattle.tree_model.specs.Lines.{lines}
 use Rattle.tree_model.specs.Checks.{conditions}
 use Rattle.refusals.specs.Outcome.{Planned, Refused}
 use Rattle.tree_read_model.specs.Survey.{treeIn, surveyed, outcomeIn}
 use Rattle.tree_program_model.specs.declared.Arguments.{Arguments}
-use Rattle.row_program_model.specs.Output.{tooLong}
-use Rattle.tree_program_model.specs.Output.{isUnreadable, lossIn, argued, besideOf, sinkOf, argumentConditions, callOutcome, treeOutput}
+use Rattle.tree_program_model.specs.Output.{isUnreadable, lossIn, argued, radioOf, sinkOf, argumentConditions, callOutcome, treeOutput}
 
 -- ---- numbers 9, 10 and 2
 
@@ -111,8 +111,8 @@ module _ (a : Arguments) where
 -- ---- all that is printed
 
 module _ (a : Arguments) (input : List ℕ) where
-  abbrev b : Settings
-  b = besideOf a
+  abbrev b : Radio
+  b = radioOf a
 
   abbrev sink : ℕ
   sink = sinkOf a

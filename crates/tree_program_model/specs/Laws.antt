@@ -9,14 +9,14 @@ use Rattle.decimal_model.specs.declared.Number.the-variants.{Value}
 use Rattle.refusals.specs.declared.Refusal.{Refusal}
 use Rattle.refusals.specs.declared.Verdict.the-variants.{Kept, Broken}
 use Rattle.refusals.specs.Conditions.{firstBroken}
-use Rattle.tree_model.specs.declared.NodeLine.{NodeLine}
+use Rattle.plan_model.specs.declared.NodeLine.{NodeLine}
 use Rattle.tree_model.specs.Promise.{Keeps}
 use Rattle.tree_read_model.specs.Survey.{treeIn, surveyed, outcomeIn}
 use Rattle.report_model.specs.Text.{refusalText}
 use Rattle.report_model.specs.TreeText.{treeText}
-use Rattle.plan_model.specs.Plans.{printed}
+use Rattle.program_model.specs.Printed.{printed}
 use Rattle.tree_program_model.specs.declared.Arguments.{Arguments}
-use Rattle.tree_program_model.specs.Output.{argued, besideOf, sinkOf, treeOutput}
+use Rattle.tree_program_model.specs.Output.{argued, radioOf, sinkOf, treeOutput}
 
 -- over 65,536 bytes one line is all, whatever they and the arguments are
 abbrev pub LongInputs : Type 0
@@ -30,7 +30,7 @@ TenBeforeTwo = (a : Arguments) (input : List ℕ) (r : Refusal) → length input
 -- arguments that can be read are settings beside and a sink, and what is printed is the text's outcome with them
 abbrev pub ReadArguments : Type 0
 ReadArguments = (a : Arguments) (input : List ℕ) → length input ≤ 65536 → firstBroken Broken Kept (argued a) ≡ Kept
-    → treeOutput a input ≡ printed treeText (outcomeIn input (besideOf a) (sinkOf a))
+    → treeOutput a input ≡ printed treeText (outcomeIn input (radioOf a) (sinkOf a))
 
 -- LOSS that is not given is LOSS 0
 abbrev pub NotGivenIsZero : Type 0
@@ -40,4 +40,4 @@ NotGivenIsZero = (bo so head payload ack sink loss : Number) (count : ℕ) (inpu
 
 -- demand 3 of what is printed: of ANY lines whose text it is
 abbrev pub PrintedLinesKeep : Type 0
-PrintedLinesKeep = (a : Arguments) (input : List ℕ) (p : List NodeLine) → treeOutput a input ≡ treeText p → Keeps (besideOf a) (treeIn input) (sinkOf a) p
+PrintedLinesKeep = (a : Arguments) (input : List ℕ) (p : List NodeLine) → treeOutput a input ≡ treeText p → Keeps (radioOf a) (treeIn input) (sinkOf a) p

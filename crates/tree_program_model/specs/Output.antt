@@ -8,17 +8,16 @@ use Rattle.decimal_model.specs.declared.Number.the-variants as number
 use Rattle.refusals.specs.declared.Refusal.{Refusal}
 use Rattle.refusals.specs.declared.Refusal.the-variants.{Unreadable, TextAfter}
 use Rattle.refusals.specs.Conditions.{Condition, condition, firstBroken}
-use Rattle.settings_model.specs.declared.Settings.{Settings}
-use Rattle.tree_model.specs.Beside.{beside}
+use Rattle.settings_model.specs.declared.Radio.{Radio}
+use Rattle.settings_model.specs.Checks.{radio}
 use Rattle.tree_model.specs.Lines.{lines}
 use Rattle.tree_model.specs.Checks.{conditions}
 use Rattle.refusals.specs.Outcome.{Planned, Refused}
 use Rattle.tree_model.specs.Outcome.{TreeOutcome}
 use Rattle.tree_read_model.specs.Survey.{treeIn, surveyed}
 use Rattle.report_model.specs.TreeText.{treeText}
-use Rattle.plan_model.specs.Plans.{printed}
+use Rattle.program_model.specs.Printed.{printed, tooLong}
 use Rattle.tree_program_model.specs.declared.Arguments.{Arguments}
-use Rattle.row_program_model.specs.Output.{tooLong}
 
 -- the value of an argument; 0 where it is missing or no number
 unfoldable pub valueOf : Number → ℕ
@@ -44,8 +43,8 @@ argued a =
     ∷ condition (ltb 7 (a .count)) (TextAfter 14) ∷ []
 
 -- the settings beside, and the sink's node: number 0 is none, so that a sink that is missing or no number is refused with 10
-unfoldable pub besideOf : Arguments → Settings
-besideOf a = beside (valueOf (a .bo)) (valueOf (a .so)) (valueOf (a .head)) (valueOf (a .payload)) (valueOf (a .ack)) (valueOf (lossIn a))
+unfoldable pub radioOf : Arguments → Radio
+radioOf a = radio (valueOf (a .bo)) (valueOf (a .so)) (valueOf (a .head)) (valueOf (a .payload)) (valueOf (a .ack)) (valueOf (lossIn a))
 
 unfoldable pub sinkOf : Arguments → ℕ
 sinkOf a = valueOf (a .sink)
@@ -57,8 +56,8 @@ argumentConditions a input = tooLong input ++ surveyed input (sinkOf a) ++ argue
 -- then numbers 3 to 7, or the plan
 unfoldable pub callOutcome : Arguments → List ℕ → TreeOutcome
 callOutcome a input =
-    firstBroken Refused (Planned (lines (besideOf a) (treeIn input) (sinkOf a)))
-    (argumentConditions a input ++ conditions (besideOf a) (treeIn input) (sinkOf a))
+    firstBroken Refused (Planned (lines (radioOf a) (treeIn input) (sinkOf a)))
+    (argumentConditions a input ++ conditions (radioOf a) (treeIn input) (sinkOf a))
 
 -- what is printed: the plan's text, or `R`, number and place of the first refusal
 unfoldable pub treeOutput : Arguments → List ℕ → List ℕ

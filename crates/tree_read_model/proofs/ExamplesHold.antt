@@ -3,7 +3,7 @@ use mathlib.Core.Path.{refl}
 use Rattle.decimal_model.specs.Decimal.{digitsBy, decimal}
 use Rattle.lines.specs.Text.{joined, ended}
 use Rattle.refusals.specs.Refusals.{conflictPlace, treeNumber, treePlace, numberOf, placeOf}
-use Rattle.row_model.specs.Witness.{columns}
+use Rattle.plan_model.specs.Lines.{columns}
 use Rattle.tree_model.specs.Examples.{nodeColumns, common}
 use Rattle.tree_read_model.specs.Examples.{answered, listing, asked, bytes, second, Names, leafLine, leafLines, wide, NodeLines, balancedList, besideIt, brokenList, eightLeaves, Order, columnsOf, Plans}
 use Rattle.tree_read_model.proofs.Computing.{lists}

@@ -6,7 +6,7 @@ use lib.Dec.{eqb, leb, ltb}
 use Rattle.decimal_model.specs.Ascii.{ascii}
 use Rattle.decimal_model.specs.Number.{readable, spelled}
 use Rattle.lines.specs.Text.{same, fields}
-use Rattle.settings_model.specs.Columns.{columnAt, within}
+use Rattle.settings_model.specs.Columns.{columnAt, inRange}
 use Rattle.tree_read_model.specs.declared.Reading.{Reading}
 use Rattle.tree_read_model.specs.declared.Reading.the-variants.{Node, Unreadable}
 
@@ -38,7 +38,7 @@ parentRight k p = cond (eqb k 1) (eqb p 0) (ltb 0 p && ltb p k)
 
 -- "BURST and RATE are both in range or both 0": in the ranges of document 01's columns
 unfoldable pub sensorRight : ℕ → ℕ → Bool
-sensorRight b r = (eqb b 0 && eqb r 0) || (within (columnAt 7) b && within (columnAt 8) r)
+sensorRight b r = (eqb b 0 && eqb r 0) || (inRange (columnAt 7) b && inRange (columnAt 8) r)
 
 -- the line of node k: "the nodes 1, 2, .. in order", at most 254
 unfoldable pub entryRight : ℕ → Reading → Bool

@@ -8,8 +8,8 @@ use Rattle.decimal_model.specs.Ascii.{ascii}
 use Rattle.decimal_model.specs.Decimal.{decimal}
 use Rattle.lines.specs.Text.{joined, ended}
 use Rattle.refusals.specs.Refusals.{numberOf, placeOf}
-use Rattle.settings_model.specs.declared.Settings.{Settings}
-use Rattle.tree_model.specs.Beside.{beside}
+use Rattle.settings_model.specs.declared.Radio.{Radio}
+use Rattle.settings_model.specs.Checks.{radio}
 use Rattle.refusals.specs.Outcome.{Planned, Refused}
 use Rattle.tree_model.specs.Outcome.{TreeOutcome}
 use Rattle.tree_model.specs.Examples.{nodeColumns, common}
@@ -114,8 +114,8 @@ pub record NodeLines : Type 0 where
   -- the first broken line answers
   pub firstBroken : asked ("1 0 1 1" ∷ "2 1 1 1" ∷ "3 3 1 1" ∷ "4 4 1 1" ∷ []) 1 ≡ of 10 3
   -- "up to 254": a 255th line is one too many; 254 pass number 10, and so come to number 3 of the settings beside
-  pub tooMany : answered (outcomeIn (wide 254) (beside 15 4 19 7 0 0) 1) ≡ of 10 255
-  pub most : answered (outcomeIn (wide 253) (beside 15 4 19 7 0 0) 1) ≡ of 3 1
+  pub tooMany : answered (outcomeIn (wide 254) (radio 15 4 19 7 0 0) 1) ≡ of 10 255
+  pub most : answered (outcomeIn (wide 253) (radio 15 4 19 7 0 0) 1) ≡ of 3 1
 
 -- ---- the sink, and the order of numbers
 
@@ -124,7 +124,7 @@ unfoldable pub balancedList : List String
 balancedList = "1 0 0 0" ∷ "2 1 0 0" ∷ "3 1 0 0" ∷ "4 1 1 1" ∷ "5 2 1 1" ∷ "6 3 1 1" ∷ []
 
 -- the answer to it with these settings beside
-unfoldable pub besideIt : Settings → ℕ → List ℕ
+unfoldable pub besideIt : Radio → ℕ → List ℕ
 besideIt b sink = answered (outcomeIn (listing balancedList) b sink)
 
 -- a broken second line
@@ -144,14 +144,14 @@ pub record Order : Type 0 where
   pub sinkAlone : asked ("1 0 1 1" ∷ []) 1 ≡ of 0 0
   -- lines before the sink, and both before 3
   pub lineBeforeSink : asked brokenList 0 ≡ of 10 2
-  pub lineBeforeThree : answered (outcomeIn (listing brokenList) (beside 15 4 19 7 0 0) 1) ≡ of 10 2
-  pub sinkBeforeThree : besideIt (beside 15 4 19 7 0 0) 0 ≡ of 10 0
+  pub lineBeforeThree : answered (outcomeIn (listing brokenList) (radio 15 4 19 7 0 0) 1) ≡ of 10 2
+  pub sinkBeforeThree : besideIt (radio 15 4 19 7 0 0) 0 ≡ of 10 0
   -- then 3, 4, 6, 5 and 7
-  pub three : besideIt (beside 15 4 19 7 0 0) 1 ≡ of 3 1
-  pub four : besideIt (beside 4 8 19 7 0 0) 1 ≡ of 4 2
-  pub six : besideIt (beside 5 4 19 7 0 0) 1 ≡ of 6 0
+  pub three : besideIt (radio 15 4 19 7 0 0) 1 ≡ of 3 1
+  pub four : besideIt (radio 4 8 19 7 0 0) 1 ≡ of 4 2
+  pub six : besideIt (radio 5 4 19 7 0 0) 1 ≡ of 6 0
   pub five : asked eightLeaves 1 ≡ of 5 1
-  pub seven : answered (outcomeIn (listing ("1 0 0 0" ∷ "2 1 0 0" ∷ "3 2 1 8" ∷ [])) (beside 3 0 17 1 0 0) 2) ≡ of 7 2
+  pub seven : answered (outcomeIn (listing ("1 0 0 0" ∷ "2 1 0 0" ∷ "3 2 1 8" ∷ [])) (radio 3 0 17 1 0 0) 2) ≡ of 7 2
 
 -- ---- plans
 

@@ -4,8 +4,8 @@ use mathlib.Core.Bool.{true}
 use mathlib.Core.List.{List}
 use Prim.Native.Nat.{ℕ}
 use Rattle.refusals.specs.Conditions.{Unbroken}
-use Rattle.settings_model.specs.declared.Settings.{Settings}
-use Rattle.tree_model.specs.declared.NodeLine.{NodeLine}
+use Rattle.settings_model.specs.declared.Radio.{Radio}
+use Rattle.plan_model.specs.declared.NodeLine.{NodeLine}
 use Rattle.tree_model.specs.Tree.{isRouter}
 use Rattle.refusals.specs.Outcome.{Planned}
 use Rattle.tree_model.specs.Outcome.{outcomeOf}
@@ -19,9 +19,9 @@ UnbrokenIsSurveyed = (input : List ℕ) (sink : ℕ) → Unbroken (surveyed inpu
 
 -- a text is planned exactly where number 10 lets it pass and its tree is planned, with the same lines
 abbrev pub PlannedText : Type 0
-PlannedText = (input : List ℕ) (b : Settings) (sink : ℕ) (p : List NodeLine) → outcomeIn input b sink ≡ Planned p
+PlannedText = (input : List ℕ) (b : Radio) (sink : ℕ) (p : List NodeLine) → outcomeIn input b sink ≡ Planned p
     → Unbroken (surveyed input sink) × (outcomeOf b (treeIn input) sink ≡ Planned p)
 
 -- and so keeps its promise
 abbrev pub EveryTextKeeps : Type 0
-EveryTextKeeps = (input : List ℕ) (b : Settings) (sink : ℕ) (p : List NodeLine) → outcomeIn input b sink ≡ Planned p → Keeps b (treeIn input) sink p
+EveryTextKeeps = (input : List ℕ) (b : Radio) (sink : ℕ) (p : List NodeLine) → outcomeIn input b sink ≡ Planned p → Keeps b (treeIn input) sink p

@@ -8,7 +8,7 @@ use Rattle.refusals.specs.declared.Refusal.the-variants.{InTree}
 use Rattle.refusals.specs.declared.TreeRefusal.the-variants.{NodeNames, NodeLine, SinkNode}
 use Rattle.refusals.specs.Conditions.{Condition, condition, firstBroken}
 use Rattle.lines.specs.Text as text
-use Rattle.settings_model.specs.declared.Settings.{Settings}
+use Rattle.settings_model.specs.declared.Radio.{Radio}
 use Rattle.tree_model.specs.Tree.{Tree, treeOf, isNumber, isRouter}
 use Rattle.tree_model.specs.Lines.{lines}
 use Rattle.tree_model.specs.Checks.{conditions}
@@ -69,5 +69,5 @@ surveyed input sink = named input ++ listed (nodeLines input) ++ sinkRight (tree
 
 -- ---- the outcome of a text: 10 "before all others", then numbers 3 to 7
 
-unfoldable pub outcomeIn : List ℕ → Settings → ℕ → TreeOutcome
+unfoldable pub outcomeIn : List ℕ → Radio → ℕ → TreeOutcome
 outcomeIn input b sink = firstBroken Refused (Planned (lines b (treeIn input) sink)) (surveyed input sink ++ conditions b (treeIn input) sink)

@@ -9,8 +9,8 @@ use Rattle.refusals.specs.declared.Verdict.{Verdict}
 use Rattle.refusals.specs.declared.Verdict.the-variants.{Kept, Broken}
 use Rattle.refusals.specs.Conditions.{Condition}
 use Rattle.refusals.proofs.Answering.{verdict, first-part-answers, second-part-answers}
-use Rattle.settings_model.specs.declared.Settings.{Settings}
-use Rattle.settings_model.specs.Checks.{checks}
+use Rattle.settings_model.specs.declared.Radio.{Radio}
+use Rattle.settings_model.specs.Checks.{radioChecks}
 use Rattle.plan_model.specs.Times.{timingAnswered}
 use Rattle.tree_model.specs.Checks.{routersFit, routersFrom, conditions}
 use Rattle.tree_read_model.specs.Survey.{treeFrom, treeIn, surveyed}
@@ -18,7 +18,7 @@ use Rattle.tree_plan_model.specs.Tables.{Loaded, routersInFrom}
 use Rattle.tree_plan_model.specs.Stages.{conditionsBeforeSlots, conditionsIn, LoadsHeld}
 use Rattle.tree_plan_model.proofs.Tabled.{parents-held, tables-held}
 
-module _ (input : List ℕ) (b : Settings) (sink : ℕ) where
+module _ (input : List ℕ) (b : Radio) (sink : ℕ) where
   -- 5 and 7 of every router come last
   abbrev last : List (Condition Refusal)
   last = routersFrom b (treeIn input) sink (treeIn input .nodes) 1
@@ -26,8 +26,8 @@ module _ (input : List ℕ) (b : Settings) (sink : ℕ) where
   in-parts : conditionsIn input b sink ≡ conditionsBeforeSlots input b sink ++ last
   unfolding conditionsIn conditionsBeforeSlots conditions
   in-parts =
-      sym (append-assoc (surveyed input sink) (checks b ++ routersFit b (treeIn input)) last)
-      ∙ ap (λ (cs : List (Condition Refusal)). cs ++ last) (sym (append-assoc (surveyed input sink) (checks b) (routersFit b (treeIn input))))
+      sym (append-assoc (surveyed input sink) (radioChecks b ++ routersFit b (treeIn input)) last)
+      ∙ ap (λ (cs : List (Condition Refusal)). cs ++ last) (sym (append-assoc (surveyed input sink) (radioChecks b) (routersFit b (treeIn input))))
 
   pub before-broken : (x : Refusal) → verdict (conditionsBeforeSlots input b sink) ≡ Broken x → Broken x ≡ verdict (conditionsIn input b sink)
   before-broken x e = rw in-parts (first-part-answers Broken Kept (conditionsBeforeSlots input b sink) last x e)

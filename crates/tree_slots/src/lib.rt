@@ -14,7 +14,7 @@ use crate::tally::tally;
 use links::Timing;
 use plan_common::timing_of;
 use refusals::Verdict;
-use settings_model::Settings;
+use settings_model::Radio;
 use tree_loads::loads_of;
 use tree_plan_model::Stage;
 
@@ -23,7 +23,7 @@ mod tally; // the reservations of every router, by one pass
 
 // Checks every condition, 10 and 3 to 7, for any settings and any sink. Lent notes are those of `loads_of`: made where 10, 3, 4 and 6 are
 // kept, and else as they were.
-pub fn check(input: &[u8], b: Settings, sink: u64, notes: &mut [u64; 768]) -> Stage
+pub fn check(input: &[u8], b: Radio, sink: u64, notes: &mut [u64; 768]) -> Stage
     ensures { λ r. ⌜ r .verdict ≡ firstBroken Broken Kept (conditionsIn (now (input .entry)) b sink) ⌝ }
     ensures { λ r. ⌜ LoadsLeft (now (input .entry)) b sink r (now (notes .entry)) (now (notes .exit)) ⌝ }
 {

@@ -13,10 +13,10 @@ use Rattle.links.specs.Link.{after, reservationOf, figuresBy, figuresOf}
 use Rattle.links.specs.Answers.{reservationAnswered, figuresAnswered, Moderate}
 use Rattle.links.proofs.Making.{reservation-fits, figures-fit}
 use Rattle.links.proofs.LinkLaws.{after-bound, delay-bound}
-use Rattle.row_model.specs.Lines.{none}
+use Rattle.plan_model.specs.Lines.{noFigures}
 use Rattle.tree_plan_model.specs.Tables.{Light, linkFor}
 
-pub link-none : (a : Timing) (l : Load) (f : Figures) → l .rate .0 ≡ 0 → f ≡ none → f ≡ linkFor a l
+pub link-none : (a : Timing) (l : Load) (f : Figures) → l .rate .0 ≡ 0 → f ≡ noFigures → f ≡ linkFor a l
 unfolding linkFor
 link-none a l f e q = q ∙ rw (eq-eqb (l .rate .0) 0 e)
 
@@ -40,7 +40,7 @@ module _ (a : Timing) (l : Load) (light : Light a l) where
 
   -- and its delay is low
   pub delay-low : linkFor a l .delay .0 ≤ 2 ^ 54
-  unfolding linkFor none
+  unfolding linkFor noFigures
   delay-low = by (ℕ-discrete (l .rate .0) 0)
     where
       by : Dec (l .rate .0 ≡ 0) → linkFor a l .delay .0 ≤ 2 ^ 54

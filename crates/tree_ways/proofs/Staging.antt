@@ -9,11 +9,10 @@ use Rattle.refusals.specs.declared.Verdict.the-variants.{Kept, Broken}
 use Rattle.refusals.proofs.Answering.{verdict, broken-kept}
 use Rattle.refusals.proofs.Unbroken.{unbroken-first, kept-unbroken, unbroken-append, unbroken-left, unbroken-right}
 use Rattle.links.specs.declared.Timing.{Timing}
-use Rattle.settings_model.specs.declared.Settings.{Settings}
-use Rattle.settings_model.specs.Checks.{checks}
-use Rattle.plan_model.specs.Times.{timingAnswered}
+use Rattle.settings_model.specs.declared.Radio.{Radio}
+use Rattle.settings_model.specs.Checks.{radioChecks}
+use Rattle.plan_model.specs.Times.{timingAnswered, timingOf}
 use Rattle.plan_model.proofs.TimesMade.{timing-fits}
-use Rattle.row_model.specs.Times.{timingOf}
 use Rattle.tree_model.specs.Tree.{Planted, WithoutGaps}
 use Rattle.tree_model.specs.Checks.{routersFit, routersFrom, conditions}
 use Rattle.tree_read_model.specs.Survey.{treeIn, surveyed}
@@ -23,16 +22,16 @@ use Rattle.tree_plan_model.specs.Filled.{DepthsSet, WaysSet}
 use Rattle.tree_plan_model.specs.Stages.{conditionsBeforeSlots, conditionsIn, LoadsHeld, WaysLeft}
 use Rattle.tree_plan_model.proofs.Tabled.{tabled, parents-held}
 
-module _ (input : List ℕ) (b : Settings) (sink : ℕ) where
+module _ (input : List ℕ) (b : Radio) (sink : ℕ) where
   -- where all conditions are kept, those before numbers 5 and 7 are
   pub kept-before-slots : verdict (conditionsIn input b sink) ≡ Kept → verdict (conditionsBeforeSlots input b sink) ≡ Kept
   unfolding conditionsIn conditions conditionsBeforeSlots
   kept-before-slots k =
       let t = treeIn input in
       let u = kept-unbroken (conditionsIn input b sink) k in
-      let w = unbroken-left (checks b ++ routersFit b t) (routersFrom b t sink (t .nodes) 1) (unbroken-right (surveyed input sink) (conditions b t sink) u) in
-      let s = unbroken-append (surveyed input sink) (checks b) (unbroken-left (surveyed input sink) (conditions b t sink) u) (unbroken-left (checks b) (routersFit b t) w) in
-      unbroken-first Broken Kept (conditionsBeforeSlots input b sink) (unbroken-append (surveyed input sink ++ checks b) (routersFit b t) s (unbroken-right (checks b) (routersFit b t) w))
+      let w = unbroken-left (radioChecks b ++ routersFit b t) (routersFrom b t sink (t .nodes) 1) (unbroken-right (surveyed input sink) (conditions b t sink) u) in
+      let s = unbroken-append (surveyed input sink) (radioChecks b) (unbroken-left (surveyed input sink) (conditions b t sink) u) (unbroken-left (radioChecks b) (routersFit b t) w) in
+      unbroken-first Broken Kept (conditionsBeforeSlots input b sink) (unbroken-append (surveyed input sink ++ radioChecks b) (routersFit b t) s (unbroken-right (radioChecks b) (routersFit b t) w))
 
   -- what holds of the tables then
   module _ (n : ℕ) (ks ns : List ℕ) (H : LoadsHeld input b sink n ks ns) where

@@ -1,6 +1,6 @@
 // The figures of a link: zeros where it has no traffic (document 02, E3: "Links with rate 0 get no reservation, and zeros after DEPTH").
 ghost use mathlib.Core.Path.{_≡_};
-ghost use Rattle.row_model.specs.Lines.{none};
+ghost use Rattle.plan_model.specs.Lines.{noFigures};
 ghost use Rattle.tree_plan_model.specs.Tables.{Light, linkFor};
 use links::Figures;
 use links::Load;
@@ -26,7 +26,7 @@ pub fn link_figures(t: Timing, load: Load) -> Figures
 
 // No figures.
 fn no_figures() -> Figures
-    ensures { λ r. ⌜ r ≡ none ⌝ }
+    ensures { λ r. ⌜ r ≡ noFigures ⌝ }
 {
     Figures {
         rate: Rate(0),

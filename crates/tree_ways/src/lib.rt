@@ -10,7 +10,7 @@ use crate::depths::set_depths;
 use crate::ways::set_ways;
 use plan_common::timing_of;
 use refusals::Verdict;
-use settings_model::Settings;
+use settings_model::Radio;
 use tree_plan_model::Stage;
 
 pub mod figures; // the figures of a link
@@ -21,7 +21,7 @@ pub mod ways; // and of every way
 // sink. Lent notes are those of `tree_loads`. A refused tree leaves every number of the other tables as it was.
 pub fn ways_of(
     input: &[u8],
-    b: Settings,
+    b: Radio,
     sink: u64,
     notes: &mut [u64; 768],
     depths: &mut [u8; 256],

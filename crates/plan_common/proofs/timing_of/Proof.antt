@@ -17,7 +17,7 @@ lossy-exchange-time-requires : tie.Need-lossy-exchange-time-requires
 lossy-exchange-time-requires c κs = search needs
 
 returns : tie.Need-returns
-returns c = timing-made (c .before .before .before .before .before .args .s) _ _ _ _ (c .before .before .before .before .sum .ensures) (c .before .before .before .beacon-interval .ensures) (c .before .before .slot-length .ensures) (c .lossy-exchange-time .ensures)
+returns c = timing-made (c .before .before .before .before .before .args .b) _ _ _ _ (c .before .before .before .before .sum .ensures) (c .before .before .before .beacon-interval .ensures) (c .before .before .slot-length .ensures) (c .lossy-exchange-time .ensures)
 
 pub timing-of-spec : {M : Type 1} → statement M
 timing-of-spec =

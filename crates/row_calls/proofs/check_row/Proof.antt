@@ -1,7 +1,7 @@
 -- `row_calls::check_row` meets its contract. Assumes nothing.
 use Rattle.row_answer_model.specs.Outcomes.{namedOutcome}
 use Rattle.report_model.specs.Text.{text}
-use Rattle.calls_model.specs.Entries.{checkRow}
+use Rattle.row_calls_model.specs.Entries.{checkRow}
 use borrow.Author.Needs.{needs}
 use Rattle.calls_model.proofs.Leaving.{plan-told, told-short}
 use Rattle.row_calls.proofs.check_row.Statement.{statement}

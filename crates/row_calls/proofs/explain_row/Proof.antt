@@ -8,7 +8,7 @@ use Rattle.plan_model.specs.declared.Plan.{Plan}
 use Rattle.row_answer_model.specs.Outcomes.{namedOutcome}
 use Rattle.report_model.specs.Text.{text}
 use Rattle.reason_model.specs.Reasons.{spoken}
-use Rattle.calls_model.specs.Reasons.{rowLine, explainRow}
+use Rattle.row_calls_model.specs.Entries.{rowLine, explainRow}
 use Rattle.calls_model.proofs.Leaving.{plan-told}
 use Rattle.calls_model.proofs.ReasonLines.{line-again}
 use borrow.Author.Needs.{needs}

@@ -7,7 +7,7 @@ use Rattle.row_read_model.specs.Names.{headingOf}
 use Rattle.row_model.specs.Lines.{lines}
 use Rattle.row_answer_model.specs.Outcomes.{spelledSettings, rowConditions, rowOutcome, namedOutcome}
 use Rattle.report_model.specs.Text.{text}
-use Rattle.calls_model.specs.Entries.{planRow}
+use Rattle.row_calls_model.specs.Entries.{planRow}
 use borrow.Author.Needs.{needs}
 use Rattle.calls_model.proofs.Leaving.{plan-short, plan-copied}
 use Rattle.row_calls.proofs.plan_apart.Statement.{statement}

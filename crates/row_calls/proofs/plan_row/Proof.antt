@@ -4,10 +4,10 @@ use Rattle.row_read_model.specs.Names.{headingOf}
 use Rattle.row_model.specs.Lines.{lines}
 use Rattle.row_answer_model.specs.Outcomes.{spelledSettings, rowConditions, rowOutcome, namedOutcome}
 use Rattle.report_model.specs.Text.{text}
-use Rattle.calls_model.specs.Entries.{planRow}
+use Rattle.row_calls_model.specs.Entries.{planRow}
 use borrow.Author.Needs.{needs}
 use Rattle.calls_model.proofs.Leaving.{plan-left}
-use Rattle.calls_model.proofs.LawsHold.{promised-left}
+use Rattle.row_calls_model.proofs.LawsHold.{promised-left}
 use Rattle.row_calls.proofs.plan_row.Statement.{statement}
 use Rattle.row_calls.proofs.plan_row.Tie as tie
 

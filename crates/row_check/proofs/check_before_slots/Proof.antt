@@ -1,6 +1,6 @@
 -- `row_check::check_before_slots` meets its contract. Assumes nothing.
 use mathlib.Core.Path.{sym, _∙_}
-use Rattle.plan_model.proofs.Answers.{three-four-broken, five-broken, six-next, kept-checked}
+use Rattle.row_plan_model.proofs.Answers.{three-four-broken, five-broken, six-next, kept-checked}
 use borrow.Author.Needs.{needs}
 use Rattle.row_check.proofs.check_before_slots.Statement.{statement}
 use Rattle.row_check.proofs.check_before_slots.Tie as tie

@@ -1,7 +1,7 @@
 -- `row_check::reservations_fit` meets its contract. Assumes nothing.
 use Rattle.row_model.specs.Checks.{reservations}
 use native.Mathlib.Omega.{arith}
-use Rattle.plan_model.proofs.Conditions.{over-limit, in-limit}
+use Rattle.refusals.proofs.Limits.{over-limit, in-limit}
 use Prim.Native.Nat.{_+_}
 use borrow.Author.Needs.{needs}
 use Rattle.row_check.proofs.reservations_fit.Statement.{statement}

@@ -5,7 +5,7 @@ use native.Mathlib.Nat.{mul-le-mul}
 use Prim.Native.Nat.{_-_, _^_, _≤_}
 use mathlib.Core.Path.{_≡_, sym, ap, _∙_}
 use native.Mathlib.Omega.{arith}
-use Rattle.plan_model.proofs.Conditions.{full-fits}
+use Rattle.row_plan_model.proofs.Conditions.{full-fits}
 use Rattle.row_check.proofs.routers_of.Statement.{statement}
 use Rattle.row_check.proofs.routers_of.Tie as tie
 

@@ -2,9 +2,9 @@
 use mathlib.Core.Path.{_≡_, refl, sym, ap, _∙_}
 use borrow.Author.Needs.{needs}
 use Rattle.refusals.proofs.Answering.{broken-kept}
-use Rattle.plan_model.specs.declared.Links.{Links}
-use Rattle.plan_model.specs.Inner.{noLinks}
-use Rattle.plan_model.proofs.Answers.{kept-sound}
+use Rattle.row_plan_model.specs.declared.Links.{Links}
+use Rattle.row_plan_model.specs.Inner.{noLinks}
+use Rattle.row_plan_model.proofs.Answers.{kept-sound}
 use Rattle.row_loads.proofs.links_of.Statement.{statement}
 use Rattle.row_loads.proofs.links_of.Tie as tie
 

@@ -1,6 +1,6 @@
 -- `row_loads::unlinked` meets its contract. Assumes nothing.
 use borrow.Author.Needs.{needs}
-use Rattle.plan_model.specs.Inner.{noLinks}
+use Rattle.row_plan_model.specs.Inner.{noLinks}
 use Rattle.row_loads.proofs.unlinked.Statement.{statement}
 use Rattle.row_loads.proofs.unlinked.Tie as tie
 

@@ -2,8 +2,8 @@
 use mathlib.Core.Path.{sym, ap, _∙_}
 use borrow.Author.Needs.{needs}
 use Rattle.refusals.proofs.Answering.{broken-kept}
-use Rattle.plan_model.specs.declared.Link.{Link}
-use Rattle.plan_model.proofs.Answers.{before-slots-broken, before-slots-kept}
+use Rattle.row_plan_model.specs.declared.Link.{Link}
+use Rattle.row_plan_model.proofs.Answers.{before-slots-broken, before-slots-kept}
 use Rattle.row_plan.proofs.decide.Statement.{statement}
 use Rattle.row_plan.proofs.decide.Tie as tie
 

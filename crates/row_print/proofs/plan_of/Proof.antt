@@ -3,7 +3,7 @@ use mathlib.Core.Path.{sym, _∙_}
 use borrow.Author.Needs.{needs}
 use Rattle.row_model.specs.Lines.{lines}
 use Rattle.report_model.specs.Text.{text}
-use Rattle.plan_model.proofs.Answers.{kept-before-slots, broken-refused, kept-planned, plan-keeps}
+use Rattle.row_plan_model.proofs.Answers.{kept-before-slots, broken-refused, kept-planned, plan-keeps}
 use Rattle.plan_model.proofs.Answered.{refused-answer, refused-put, refused-short, planned-answer, planned-put}
 use Rattle.row_print.proofs.plan_of.Statement.{statement}
 use Rattle.row_print.proofs.plan_of.Tie as tie

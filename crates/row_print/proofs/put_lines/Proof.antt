@@ -2,9 +2,9 @@
 use mathlib.Core.Path.{ap, _∙_}
 use native.Mathlib.Omega.{arith}
 use borrow.Author.Needs.{needs}
-use Rattle.plan_model.specs.Pages.{Page}
-use Rattle.plan_model.proofs.Whole.{pageOf, no-lines}
-use Rattle.plan_model.proofs.PlanLines.{links-put, links-delay, plan-put}
+use Rattle.row_plan_model.specs.Pages.{Page}
+use Rattle.row_plan_model.proofs.Whole.{pageOf, no-lines}
+use Rattle.row_plan_model.proofs.PlanLines.{links-put, links-delay, plan-put}
 use Rattle.row_print.proofs.put_lines.Statement.{statement}
 use Rattle.row_print.proofs.put_lines.Tie as tie
 

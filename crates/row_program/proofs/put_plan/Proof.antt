@@ -7,7 +7,7 @@ use lib.Seq.{sets}
 use borrow.Author.Needs.{needs}
 use Rattle.row_answer_model.specs.Outcomes.{rowOutcome}
 use Rattle.report_model.specs.Text.{text}
-use Rattle.plan_model.proofs.Answered.{refused-printed, planned-printed}
+use Rattle.program_model.proofs.PrintedAnswers.{refused-printed, planned-printed}
 use Rattle.row_program_model.specs.Output.{printed}
 use Rattle.row_program.proofs.put_plan.Statement.{statement}
 use Rattle.row_program.proofs.put_plan.Tie as tie

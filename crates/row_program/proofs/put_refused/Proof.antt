@@ -1,5 +1,5 @@
 -- `row_program::put_refused` meets its contract. Assumes nothing.
-use Rattle.plan_model.specs.Plans as plans
+use Rattle.program_model.specs.Printed as program
 use Rattle.row_program_model.specs.Output.{printed}
 use borrow.Author.Needs.{needs}
 use Rattle.row_program.proofs.put_refused.Statement.{statement}
@@ -21,7 +21,7 @@ same-length : tie.Need-same-length
 same-length c = search needs
 
 returns : tie.Need-returns
-unfolding plans.printed printed
+unfolding program.printed printed
 returns c = rw (c .before .before .before .before .enum-told .given .1) (c .before .before .put-refusal .ensures)
 
 same-length-2 : tie.Need-same-length-2

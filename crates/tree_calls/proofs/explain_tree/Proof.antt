@@ -4,15 +4,15 @@ use native.Mathlib.Omega.{arith}
 use lib.ListN.{replicate}
 use lib.Seq.{length-take-le}
 use Rattle.buffer.proofs.Putting.{put-front}
-use Rattle.settings_model.specs.declared.Settings.{Settings}
+use Rattle.settings_model.specs.declared.Radio.{Radio}
 use Rattle.plan_model.specs.declared.Plan.{Plan}
 use Rattle.plan_model.specs.Plans.{answer}
-use Rattle.tree_model.specs.Beside.{beside}
+use Rattle.settings_model.specs.Checks.{radio}
 use Rattle.tree_read_model.specs.Survey.{outcomeIn}
 use Rattle.report_model.specs.TreeText.{treeText}
 use Rattle.node_table_model.specs.NodeRows.{treeTable}
 use Rattle.calls_model.specs.declared.Answer.{Answer}
-use Rattle.calls_model.specs.Trees.{checkTree, treeSpoken, explainTree}
+use Rattle.tree_calls_model.specs.Entries.{checkTree, treeSpoken, explainTree}
 use Rattle.calls_model.proofs.Leaving.{plan-told}
 use Rattle.calls_model.proofs.ReasonLines.{line-again}
 use Rattle.tree_calls.proofs.Telling.{number-same, place-same, verdict-same}
@@ -20,8 +20,8 @@ use borrow.Author.Needs.{needs}
 use Rattle.tree_calls.proofs.explain_tree.Statement.{statement}
 use Rattle.tree_calls.proofs.explain_tree.Tie as tie
 
-beside-requires : tie.Need-beside-requires
-beside-requires c κs = search needs
+radio-from-requires : tie.Need-radio-from-requires
+radio-from-requires c κs = search needs
 
 slice-aggregate-decide : tie.Need-slice-aggregate-decide
 slice-aggregate-decide c = search needs
@@ -57,10 +57,10 @@ returns : tie.Need-returns
 unfolding explainTree checkTree treeSpoken
 returns c =
     let a = c .before .before .before .before .before .before .before .before .before .before .before .before .before .before .before .before .before .args in
-    let b = beside (a .bo) (a .so) (a .head) (a .payload) (a .ack) (a .loss) in
+    let b = radio (a .bo) (a .so) (a .head) (a .payload) (a .ack) (a .loss) in
     let o = outcomeIn (a .nodes .now) b (a .sink) in
     let d = c .before .before .before .before .before .before .before .before .before .before .before .decide in
-    let q = d .ensures .0 ∙ ap (λ (s : Settings). answer treeTable (outcomeIn (a .nodes .now) s (a .sink))) (c .before .before .before .before .before .before .before .before .before .before .before .before .before .before .beside .ensures) in
+    let q = d .ensures .0 ∙ ap (λ (s : Radio). answer treeTable (outcomeIn (a .nodes .now) s (a .sink))) (c .before .before .before .before .before .before .before .before .before .before .before .before .before .before .radio-from .ensures) in
     let t = plan-told treeTable o (d .result) q _ (c .before .before .before .before .before .before .before .before .answer-of .ensures) in
     let n = ap (λ (x : Answer). x .number) t ∙ number-same treeTable treeText o in
     let z = ap (λ (x : Answer). x .place) t ∙ place-same treeTable treeText o in
@@ -74,7 +74,7 @@ pub explain-tree-spec : {M : Type 1} → statement M
 explain-tree-spec =
     tie.close
     (tie.spec
-    beside-requires
+    radio-from-requires
     slice-aggregate-decide
     slice-aggregate-decide-2
     decide-requires

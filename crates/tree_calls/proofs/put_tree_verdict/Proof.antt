@@ -1,7 +1,7 @@
 -- `tree_calls::put_tree_verdict` meets its contract. Assumes nothing.
 use native.Mathlib.Omega.{arith}
 use Rattle.decimal_model.specs.Ascii.{ascii}
-use Rattle.calls_model.specs.Trees.{treeSpoken}
+use Rattle.tree_calls_model.specs.Entries.{treeSpoken}
 use borrow.Author.Needs.{needs}
 use Rattle.tree_calls.proofs.put_tree_verdict.Statement.{statement}
 use Rattle.tree_calls.proofs.put_tree_verdict.Tie as tie

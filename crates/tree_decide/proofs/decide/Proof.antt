@@ -7,7 +7,7 @@ use lib.ListN.{length}
 use lib.Seq.{sets, length-take-le}
 use Rattle.plan_model.proofs.Answered.{refused-answer, refused-short, refused-put, planned-answer, planned-put}
 use Rattle.plan_model.proofs.TimesMade.{timing-fits}
-use Rattle.tree_model.specs.declared.NodeLine.{NodeLine}
+use Rattle.plan_model.specs.declared.NodeLine.{NodeLine}
 use Rattle.tree_model.specs.Lines.{lines}
 use Rattle.tree_read_model.specs.Survey.{treeIn}
 use Rattle.node_table_model.specs.NodeRows.{treeTable}

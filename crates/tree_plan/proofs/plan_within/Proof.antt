@@ -4,7 +4,7 @@ use mathlib.Core.List.{List}
 use native.Mathlib.Omega.{arith}
 use lib.Dec.{leb}
 use lib.ListN.{length}
-use Rattle.tree_model.specs.declared.NodeLine.{NodeLine}
+use Rattle.plan_model.specs.declared.NodeLine.{NodeLine}
 use Rattle.tree_read_model.specs.Survey.{outcomeIn}
 use Rattle.report_model.specs.TreeText.{treeText}
 use Rattle.plan_model.proofs.Answered.{refused-answer, refused-short, planned-answer}

@@ -6,7 +6,7 @@ use native.Mathlib.Omega.{arith}
 use lib.ListN.{length}
 use lib.Seq.{sets}
 use Rattle.tree_read_model.specs.Survey.{outcomeIn}
-use Rattle.settings_model.specs.declared.Settings.{Settings}
+use Rattle.settings_model.specs.declared.Radio.{Radio}
 use Rattle.plan_model.specs.Plans.{answer, written}
 use Rattle.report_model.specs.TreeText.{treeText}
 use Rattle.tree_program_model.proofs.Outputs.{output-refused, plan-refused, plan-planned}
@@ -36,8 +36,8 @@ returns c =
 enum-told : tie.Need-enum-told
 enum-told c = search needs
 
-settings-of-requires : tie.Need-settings-of-requires
-settings-of-requires c κs = search needs
+radio-of-requires : tie.Need-radio-of-requires
+radio-of-requires c κs = search needs
 
 sink-of-requires : tie.Need-sink-of-requires
 sink-of-requires c κs = search needs
@@ -60,7 +60,7 @@ returns-2 c =
     let k = sym (c .before .before .before .before .before .before .before .before .before .before .before .before .before .before .before .check-call .ensures) ∙ c .before .before .before .before .before .before .before .before .before .before .before .before .before .enum-told .given .1 in
     let plan = c .before .before .before .before .before .before .before .before .before .plan-tree in
     let w = plan .ensures in
-    let o = ap₂ (λ (b : Settings) (s : ℕ). outcomeIn (a .input .now) b s) (c .before .before .before .before .before .before .before .before .before .before .before .before .settings-of .ensures) (c .before .before .before .before .before .before .before .before .before .before .before .sink-of .ensures) in
+    let o = ap₂ (λ (b : Radio) (s : ℕ). outcomeIn (a .input .now) b s) (c .before .before .before .before .before .before .before .before .before .before .before .before .radio-of .ensures) (c .before .before .before .before .before .before .before .before .before .before .before .sink-of .ensures) in
     let e = plan-refused (a .arguments) (a .input .now) k (plan .result) (w .0 ∙ ap (answer treeText) o) _ (c .before .before .before .before .before .verdict2 .given .1) in
     let put = c .before .before .put-refusal2 .ensures in
     let same : plan .last .1 .1 .1 .0 ≡ a .out .now = w .1 .1 .0 ∙ ap (λ (t : List ℕ). sets (a .out .now) 0 t) (ap (written treeText) o ∙ e .1) in
@@ -78,7 +78,7 @@ returns-3 c =
     let k = sym (c .before .before .before .before .before .before .before .before .before .before .check-call .ensures) ∙ c .before .before .before .before .before .before .before .before .enum-told .given .1 in
     let plan = c .before .before .before .before .plan-tree in
     let w = plan .ensures in
-    let o = ap₂ (λ (b : Settings) (s : ℕ). outcomeIn (a .input .now) b s) (c .before .before .before .before .before .before .before .settings-of .ensures) (c .before .before .before .before .before .before .sink-of .ensures) in
+    let o = ap₂ (λ (b : Radio) (s : ℕ). outcomeIn (a .input .now) b s) (c .before .before .before .before .before .before .before .radio-of .ensures) (c .before .before .before .before .before .before .sink-of .ensures) in
     let e = plan-planned (a .arguments) (a .input .now) k (plan .result) (w .0 ∙ ap (answer treeText) o) (c .enum-told2 .given .1) in
     (e .0, (w .1 .0, w .1 .1 .0 ∙ ap (λ (t : List ℕ). sets (a .out .now) 0 t) (ap (written treeText) o ∙ e .1)))
 
@@ -92,7 +92,7 @@ put-tree-output-spec =
     same-length
     returns
     enum-told
-    settings-of-requires
+    radio-of-requires
     sink-of-requires
     plan-tree-requires
     enum-known-verdict-2

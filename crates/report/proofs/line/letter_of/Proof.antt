@@ -1,7 +1,7 @@
 -- `report::line::letter_of` meets its contract. Assumes nothing.
 use mathlib.Core.Path.{refl}
 use borrow.Author.Needs.{needs}
-use Rattle.row_model.specs.Lines.{letter}
+use Rattle.plan_model.specs.Lines.{letter}
 use Rattle.report.proofs.line.letter_of.Statement.{statement}
 use Rattle.report.proofs.line.letter_of.Tie as tie
 

@@ -4,7 +4,7 @@ use Prim.Native.Nat.{_+_, _≤_}
 use native.Mathlib.Omega.{arith}
 use borrow.Author.Needs.{needs}
 use Rattle.decimal_model.specs.Decimal.{decimal}
-use Rattle.row_model.specs.Lines.{letter}
+use Rattle.plan_model.specs.Lines.{letter}
 use Rattle.report_model.specs.Text.{lineText}
 use Rattle.report_model.proofs.LineText.{line-columns}
 use Rattle.buffer.proofs.Behind.{Put, put-one, put-behind, put-keeps}

@@ -5,9 +5,9 @@ use native.Mathlib.Omega.{arith}
 use lib.ListN.{length}
 use borrow.Fn.Kinds.{In}
 use borrow.Fn.PlainCycle.{Measures, is, falls, and}
-use Rattle.plan_model.specs.Inner.{linkUp}
-use Rattle.plan_model.proofs.Tables.{link-set-length, set-last, set-from}
-use Rattle.plan_model.proofs.Depths.{last-made, up-made}
+use Rattle.row_plan_model.specs.Inner.{linkUp}
+use Rattle.row_plan_model.proofs.Tables.{link-set-length, set-last, set-from}
+use Rattle.row_plan_model.proofs.Depths.{last-made, up-made}
 use Rattle.row_loads.proofs.loads.upward_links.Reads as upward-links
 use Rattle.row_loads.proofs.loads.upward_links.Kinds as kinds
 use Rattle.row_loads.proofs.loads.+upward_links.Lts-upward_links as lts

@@ -3,9 +3,9 @@ use mathlib.Core.Path.{_≡_, sym, ap, _∙_, subst}
 use Prim.Native.Nat.{ℕ, _+_, _-_, _≤_, _<_}
 use native.Mathlib.Omega.{arith}
 use borrow.Author.Needs.{needs}
-use Rattle.plan_model.specs.Inner.{HeldBelow, coming, linkDown}
-use Rattle.plan_model.proofs.Depths.{down-made, coming-first, coming-made}
-use Rattle.plan_model.proofs.Tables.{link-there, none-below, set-below}
+use Rattle.row_plan_model.specs.Inner.{HeldBelow, coming, linkDown}
+use Rattle.row_plan_model.proofs.Depths.{down-made, coming-first, coming-made}
+use Rattle.row_plan_model.proofs.Tables.{link-there, none-below, set-below}
 use Rattle.row_loads.proofs.loads.downward_links.Statement.{statement}
 use Rattle.row_loads.proofs.loads.downward_links.Tie as tie
 

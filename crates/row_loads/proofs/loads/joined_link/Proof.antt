@@ -3,8 +3,8 @@ use mathlib.Core.Path.{_≡_, ap, _∙_}
 use Prim.Native.Nat.{_^_, _<_}
 use native.Mathlib.Omega.{arith}
 use borrow.Author.Needs.{needs}
-use Rattle.plan_model.specs.Inner.{joined, leftBy, linkOf}
-use Rattle.plan_model.proofs.Depths.{joined-made}
+use Rattle.row_plan_model.specs.Inner.{joined, leftBy, linkOf}
+use Rattle.row_plan_model.proofs.Depths.{joined-made}
 use Rattle.row_loads.proofs.loads.joined_link.Statement.{statement}
 use Rattle.row_loads.proofs.loads.joined_link.Tie as tie
 

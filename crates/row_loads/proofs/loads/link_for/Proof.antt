@@ -2,7 +2,7 @@
 use mathlib.Core.Path.{refl, _∙_}
 use borrow.Author.Needs.{needs}
 use Rattle.links.proofs.Making.{reservation-fits}
-use Rattle.plan_model.specs.Inner.{linkOf}
+use Rattle.row_plan_model.specs.Inner.{linkOf}
 use Rattle.row_loads.proofs.loads.link_for.Statement.{statement}
 use Rattle.row_loads.proofs.loads.link_for.Tie as tie
 

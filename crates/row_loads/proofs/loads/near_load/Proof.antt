@@ -1,7 +1,7 @@
 -- `row_loads::loads::near_load` meets its contract. Assumes nothing.
 use borrow.Author.Needs.{needs}
-use Rattle.plan_model.specs.Inner.{linkOf}
-use Rattle.plan_model.proofs.Made.{near-made}
+use Rattle.row_plan_model.specs.Inner.{linkOf}
+use Rattle.row_plan_model.proofs.Made.{near-made}
 use Rattle.row_loads.proofs.loads.near_load.Statement.{statement}
 use Rattle.row_loads.proofs.loads.near_load.Tie as tie
 

@@ -1,6 +1,6 @@
 -- `row_loads::loads::no_load` meets its contract. Assumes nothing.
 use borrow.Author.Needs.{needs}
-use Rattle.plan_model.specs.Inner.{noLoad}
+use Rattle.row_plan_model.specs.Inner.{noLoad}
 use Rattle.row_loads.proofs.loads.no_load.Statement.{statement}
 use Rattle.row_loads.proofs.loads.no_load.Tie as tie
 

@@ -1,7 +1,7 @@
 -- `row_loads::loads::sensor_load` meets its contract. Assumes nothing.
 use mathlib.Core.Path.{sym}
 use borrow.Author.Needs.{needs}
-use Rattle.plan_model.proofs.Made.{sensor-made}
+use Rattle.row_plan_model.proofs.Made.{sensor-made}
 use Rattle.row_loads.proofs.loads.sensor_load.Statement.{statement}
 use Rattle.row_loads.proofs.loads.sensor_load.Tie as tie
 

@@ -1,6 +1,6 @@
 -- `row_loads::table::link_at` meets its contract. Assumes nothing.
 use mathlib.Core.Path.{ap}
-use Rattle.plan_model.specs.Inner.{linkIn}
+use Rattle.row_plan_model.specs.Inner.{linkIn}
 use borrow.Author.Needs.{needs}
 use Rattle.row_loads.proofs.table.link_at.Statement.{statement}
 use Rattle.row_loads.proofs.table.link_at.Tie as tie

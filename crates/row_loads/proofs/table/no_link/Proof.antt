@@ -1,6 +1,6 @@
 -- `row_loads::table::no_link` meets its contract. Assumes nothing.
 use mathlib.Core.Path.{refl}
-use Rattle.plan_model.specs.Inner.{noLink}
+use Rattle.row_plan_model.specs.Inner.{noLink}
 use Rattle.row_loads.proofs.table.no_link.Statement.{statement}
 use Rattle.row_loads.proofs.table.no_link.Tie as tie
 

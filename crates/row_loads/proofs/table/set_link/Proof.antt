@@ -3,7 +3,7 @@ use mathlib.Core.Path.{_≡_, refl}
 use Prim.Native.Nat.{ℕ, suc, _+_, _*_}
 use native.Mathlib.Omega.{arith}
 use borrow.Author.Needs.{needs}
-use Rattle.plan_model.proofs.Tables.{second-place, third-place, fourth-place, fifth-place}
+use Rattle.row_plan_model.proofs.Tables.{second-place, third-place, fourth-place, fifth-place}
 use Rattle.row_loads.proofs.table.set_link.Statement.{statement}
 use Rattle.row_loads.proofs.table.set_link.Tie as tie
 

@@ -1,7 +1,7 @@
 -- `row_plan::slots::depth_fits` meets its contract. Assumes nothing.
 use native.Mathlib.Omega.{arith}
 use mathlib.Core.Path.{sym, _∙_}
-use Rattle.plan_model.proofs.Conditions.{depth-broken, depth-next, on-path-there, on-path-none}
+use Rattle.row_plan_model.proofs.Conditions.{depth-broken, depth-next, on-path-there, on-path-none}
 use borrow.Author.Needs.{needs}
 use Rattle.row_plan.proofs.slots.depth_fits.Statement.{statement}
 use Rattle.row_plan.proofs.slots.depth_fits.Tie as tie

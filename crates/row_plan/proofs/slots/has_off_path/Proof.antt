@@ -1,5 +1,5 @@
 -- `row_plan::slots::has_off_path` meets its contract. Assumes nothing.
-use Rattle.plan_model.proofs.Conditions.{root-off-path, below-off-path}
+use Rattle.row_plan_model.proofs.Conditions.{root-off-path, below-off-path}
 use Rattle.row_plan.proofs.slots.has_off_path.Statement.{statement}
 use Rattle.row_plan.proofs.slots.has_off_path.Tie as tie
 

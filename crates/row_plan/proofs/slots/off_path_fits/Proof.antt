@@ -1,6 +1,6 @@
 -- `row_plan::slots::off_path_fits` meets its contract. Assumes nothing.
 use mathlib.Core.Path.{sym, _∙_}
-use Rattle.plan_model.proofs.Conditions.{off-path-there, off-path-none}
+use Rattle.row_plan_model.proofs.Conditions.{off-path-there, off-path-none}
 use borrow.Author.Needs.{needs}
 use Rattle.row_plan.proofs.slots.off_path_fits.Statement.{statement}
 use Rattle.row_plan.proofs.slots.off_path_fits.Tie as tie

@@ -2,9 +2,9 @@
 use native.Mathlib.Omega.{arith}
 use Prim.Native.Nat.{_+_, _<_}
 use mathlib.Core.Path.{_∙_}
-use Rattle.plan_model.proofs.SlotsMade.{on-path-made}
+use Rattle.row_plan_model.proofs.SlotsMade.{on-path-made}
 use borrow.Author.Needs.{needs}
-use Rattle.plan_model.proofs.Tables.{link-there}
+use Rattle.row_plan_model.proofs.Tables.{link-there}
 use Rattle.row_plan.proofs.slots.on_path_slots.Statement.{statement}
 use Rattle.row_plan.proofs.slots.on_path_slots.Tie as tie
 

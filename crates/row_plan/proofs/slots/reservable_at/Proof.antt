@@ -1,6 +1,6 @@
 -- `row_plan::slots::reservable_at` meets its contract. Assumes nothing.
 use native.Mathlib.Omega.{arith}
-use Rattle.plan_model.proofs.TimesMade.{reservable-above, reservable-lowest}
+use Rattle.row_plan_model.proofs.TimesMade.{reservable-above, reservable-lowest}
 use borrow.Author.Needs.{needs}
 use Rattle.row_plan.proofs.slots.reservable_at.Statement.{statement}
 use Rattle.row_plan.proofs.slots.reservable_at.Tie as tie

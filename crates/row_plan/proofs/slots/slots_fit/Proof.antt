@@ -5,7 +5,7 @@ use Rattle.row_model.specs.Checks.{usedFrom}
 use native.Mathlib.Omega.{arith}
 use Prim.Native.Nat.{suc, _-_, _≤_}
 use mathlib.Core.Path.{_≡_, sym, _∙_}
-use Rattle.plan_model.proofs.Conditions.{whole-depths, depths-broken, depths-next, depths-end}
+use Rattle.row_plan_model.proofs.Conditions.{whole-depths, depths-broken, depths-next, depths-end}
 use Rattle.row_plan.proofs.slots.slots_fit.Statement.{statement}
 use Rattle.row_plan.proofs.slots.slots_fit.Tie as tie
 

@@ -1,6 +1,6 @@
 -- `row_plan::slots::within` meets its contract. Assumes nothing.
 use native.Mathlib.Omega.{arith}
-use Rattle.plan_model.proofs.Conditions.{over-limit, in-limit}
+use Rattle.refusals.proofs.Limits.{over-limit, in-limit}
 use borrow.Author.Needs.{needs}
 use Rattle.row_plan.proofs.slots.within.Statement.{statement}
 use Rattle.row_plan.proofs.slots.within.Tie as tie

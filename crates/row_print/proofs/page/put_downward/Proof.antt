@@ -4,12 +4,12 @@ use Prim.Native.Nat.{_+_, _-_, _*_, _≤_, _<_}
 use native.Mathlib.Omega.{arith}
 use lib.ListN.{length}
 use borrow.Author.Needs.{needs}
-use Rattle.plan_model.proofs.Tables.{link-there}
+use Rattle.row_plan_model.proofs.Tables.{link-there}
 use Rattle.links.specs.declared.Figures.{Figures}
-use Rattle.row_model.specs.declared.Kind.the-variants.{Downward}
-use Rattle.row_model.specs.Lines.{line}
-use Rattle.plan_model.specs.Pages.{Page, page, pushed, filled, downLinesFrom}
-use Rattle.plan_model.proofs.PageLaws.{down-figures, down-start, down-step, down-end, filled-length}
+use Rattle.plan_model.specs.declared.Kind.the-variants.{Downward}
+use Rattle.plan_model.specs.Lines.{line}
+use Rattle.row_plan_model.specs.Pages.{Page, page, pushed, filled, downLinesFrom}
+use Rattle.row_plan_model.proofs.PageLaws.{down-figures, down-start, down-step, down-end, filled-length}
 use Rattle.row_print.proofs.page.put_downward.Statement.{statement}
 use Rattle.row_print.proofs.page.put_downward.Tie as tie
 

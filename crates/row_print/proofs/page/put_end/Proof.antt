@@ -2,9 +2,9 @@
 use mathlib.Core.Path.{refl}
 use native.Mathlib.Omega.{arith}
 use borrow.Author.Needs.{needs}
-use Rattle.plan_model.specs.Pages.{page}
-use Rattle.plan_model.proofs.PageLaws.{end-figures}
-use Rattle.plan_model.proofs.Ends.{end-none, end-some}
+use Rattle.row_plan_model.specs.Pages.{page}
+use Rattle.row_plan_model.proofs.PageLaws.{end-figures}
+use Rattle.row_plan_model.proofs.Ends.{end-none, end-some}
 use Rattle.row_print.proofs.page.put_end.Statement.{statement}
 use Rattle.row_print.proofs.page.put_end.Tie as tie
 

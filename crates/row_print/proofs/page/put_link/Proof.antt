@@ -2,8 +2,8 @@
 use mathlib.Core.Path.{ap, _∙_}
 use borrow.Author.Needs.{needs}
 use Rattle.links.specs.declared.Figures.{Figures}
-use Rattle.row_model.specs.Lines.{line}
-use Rattle.plan_model.specs.Pages.{page, pushed}
+use Rattle.plan_model.specs.Lines.{line}
+use Rattle.row_plan_model.specs.Pages.{page, pushed}
 use Rattle.row_print.proofs.page.put_link.Statement.{statement}
 use Rattle.row_print.proofs.page.put_link.Tie as tie
 

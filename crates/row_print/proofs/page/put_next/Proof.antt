@@ -1,8 +1,8 @@
 -- `row_print::page::put_next` meets its contract. Assumes nothing.
 use native.Mathlib.Omega.{arith}
 use borrow.Author.Needs.{needs}
-use Rattle.plan_model.specs.Pages.{page}
-use Rattle.plan_model.proofs.PageLaws.{pushed-made}
+use Rattle.row_plan_model.specs.Pages.{page}
+use Rattle.row_plan_model.proofs.PageLaws.{pushed-made}
 use Rattle.row_print.proofs.page.put_next.Statement.{statement}
 use Rattle.row_print.proofs.page.put_next.Tie as tie
 

@@ -2,9 +2,9 @@
 use mathlib.Core.Path.{ap, _∙_}
 use native.Mathlib.Omega.{arith}
 use borrow.Author.Needs.{needs}
-use Rattle.row_model.specs.declared.Line.{Line}
-use Rattle.plan_model.specs.Pages.{page, pushed}
-use Rattle.plan_model.proofs.Ends.{sink-line-made}
+use Rattle.plan_model.specs.declared.Line.{Line}
+use Rattle.row_plan_model.specs.Pages.{page, pushed}
+use Rattle.row_plan_model.proofs.Ends.{sink-line-made}
 use Rattle.row_print.proofs.page.put_sink.Statement.{statement}
 use Rattle.row_print.proofs.page.put_sink.Tie as tie
 

@@ -4,12 +4,13 @@ use Prim.Native.Nat.{_+_, _-_, _*_, _≤_, _<_}
 use native.Mathlib.Omega.{arith}
 use lib.ListN.{length}
 use borrow.Author.Needs.{needs}
-use Rattle.plan_model.proofs.Tables.{link-there}
+use Rattle.row_plan_model.proofs.Tables.{link-there}
 use Rattle.links.specs.declared.Figures.{Figures}
-use Rattle.row_model.specs.declared.Kind.the-variants.{Upward}
-use Rattle.row_model.specs.Lines.{line, upLines}
-use Rattle.plan_model.specs.Pages.{Page, page, pushed, filled}
-use Rattle.plan_model.proofs.PageLaws.{up-figures, up-start, up-step, up-end, filled-length}
+use Rattle.plan_model.specs.declared.Kind.the-variants.{Upward}
+use Rattle.plan_model.specs.Lines.{line}
+use Rattle.row_model.specs.Lines.{upLines}
+use Rattle.row_plan_model.specs.Pages.{Page, page, pushed, filled}
+use Rattle.row_plan_model.proofs.PageLaws.{up-figures, up-start, up-step, up-end, filled-length}
 use Rattle.row_print.proofs.page.put_upward.Statement.{statement}
 use Rattle.row_print.proofs.page.put_upward.Tie as tie
 

@@ -1,7 +1,7 @@
 -- `tree_loads::checks::superframes_fit` meets its contract. Assumes nothing.
 use Prim.Native.Nat.{_*_, _-_, _%_, _^_}
 use native.Mathlib.Omega.{arith}
-use Rattle.plan_model.proofs.Conditions.{one-shifted}
+use Rattle.plan_model.proofs.TimesMade.{one-shifted}
 use Rattle.tree_plan_model.specs.Inner.{shape}
 use Rattle.tree_plan_model.proofs.Answers.{routers-over, routers-in}
 use Rattle.tree_loads.proofs.checks.superframes_fit.Statement.{statement}

@@ -1,0 +1,5 @@
+-- What the functions of rows presume of one another. Nobody has to believe this. Assumes nothing.
+-- what the inner functions presume and answer
+pub mod Inner
+-- how they put lines
+pub mod Pages
