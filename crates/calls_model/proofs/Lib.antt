@@ -11,3 +11,5 @@ pub mod LawsHold
 pub mod ExamplesHold
 -- exchange times from the table
 pub mod ExchangesAsked
+-- what is told of a decision and of the text alike
+pub mod Telling

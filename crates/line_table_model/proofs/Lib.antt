@@ -3,3 +3,7 @@
 pub mod Numbers
 -- many lines, put and read back
 pub mod RowLaws
+-- of a row's lines
+pub mod LineLaws
+-- what is decided and printed
+pub mod Decided

@@ -55,3 +55,10 @@ rowsOf numbers (l ∷ ls) = numbers l ++ rowsOf numbers ls
 -- and the first n lines that stand in a table, `width` numbers for each
 unfoldable pub rowsIn : {A : Type 0} → ℕ → (List ℕ → ℕ → A) → List ℕ → ℕ → List A
 rowsIn width read ns n = join n (λ i. read ns (width * i) ∷ [])
+
+-- a row's plan, its lines one behind another, and the first n lines that stand in a table
+abbrev pub rowTable : List Line → List ℕ
+rowTable p = rowsOf numbersOf p
+
+abbrev pub linesIn : List ℕ → ℕ → List Line
+linesIn ns n = rowsIn 9 lineIn ns n

@@ -1,21 +1,21 @@
 -- The examples of specs/Examples. Assumes nothing.
 use mathlib.Core.Path.{_≡_, refl}
-use mathlib.Core.List.{List, [], _∷_}
+use mathlib.Core.List.{[], _∷_}
 use Prim.Native.Nat.{ℕ, zero, suc, _+_, _*_, _≤_, _<_}
 use native.Mathlib.Omega.{arith}
 use lib.Dec.{lit<, lit≤}
 use lib.ListN.{length, getD}
 use Rattle.superframe_model.specs.Reservation.{framesIn}
 use Rattle.network.specs.Counting.{total, bit, below, keep, join, All, none, each}
-use Rattle.network.specs.Model.{Network, Frame, State, queue}
-use Rattle.network.specs.Readings.{Reading, made}
+use Rattle.network.specs.Model.{Frame, queue}
+use Rattle.network.specs.Readings.{made}
 use Rattle.network.specs.Run.{deliver, feeds, ends, arrived, arrivals, endExchanges, fresh, makeReadings}
 use Rattle.network.specs.Oracle.{isStart, idle, behind, takeOldest, serve, begun, serveAll, symbol, run}
-use Rattle.network.specs.Loads.{Figures, burstAfter, Linked, Provisioned}
+use Rattle.network.specs.Loads.{Figures, burstAfter, Provisioned}
 use Rattle.network.specs.Examples.{reading, first, written, received, soonFrom}
 use Rattle.network.proofs.Oracles.{every-choice-is-a-run}
 use Rattle.network.proofs.Stretches.{soon-makes, soon-none, third-frame, too-late}
-use Rattle.promise_model.specs.Promise.{networkOf, Windows, Readings, Held, Keeps}
+use Rattle.promise_model.specs.Promise.{networkOf, Windows, Readings, Keeps}
 use Rattle.promise_model.specs.Laws.{Covered}
 use Rattle.promise_model.specs.Examples.{timing, pair, figures, right, Examples}
 use Rattle.promise_model.proofs.LawsHold.{covered-is-kept}

@@ -6,10 +6,10 @@ use native.Mathlib.Nat.{mul-le-mul-right}
 use native.Mathlib.Decide.{decLe}
 use native.Mathlib.Omega.{arith}
 use Rattle.links.specs.declared.Timing.{Timing}
-use Rattle.network.specs.Counting.{total, All}
-use Rattle.network.specs.Model.{Network, Frame, State, queue}
+use Rattle.network.specs.Counting.{total}
+use Rattle.network.specs.Model.{Network, State}
 use Rattle.network.specs.Readings.{Reading, made}
-use Rattle.network.specs.Loads.{Figures, Provisioned, Buckets}
+use Rattle.network.specs.Loads.{Figures, Buckets}
 use Rattle.network.specs.Claim.{Kept}
 use Rattle.network.proofs.Lists.{All-imp, All-both}
 use Rattle.network.proofs.Theorem.{every-run-is-kept}

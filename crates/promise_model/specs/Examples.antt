@@ -1,8 +1,8 @@
 -- A sink and one node with a link to it, where everything is used up, and the same with a figure that is too low: the promise is about
 -- something, and its bounds cannot be lowered. Assumes nothing: these are definitions and statements; proofs/ExamplesHold proves them.
 use mathlib.Core.Path.{_≡_}
-use mathlib.Core.List.{List, [], _∷_}
-use Prim.Native.Nat.{ℕ, _+_, _*_}
+use mathlib.Core.List.{[], _∷_}
+use Prim.Native.Nat.{ℕ}
 use lib.ListN.{length, getD}
 use Rattle.measure.specs.Measures.{symbols, slots, frames, frameSymbols, perInterval}
 use Rattle.links.specs.declared.Timing.{Timing}

@@ -7,3 +7,5 @@ pub mod OneText
 pub mod OneTreeText
 -- the examples
 pub mod ExamplesHold
+-- the text of lines of any sort
+pub mod Paging

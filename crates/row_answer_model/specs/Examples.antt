@@ -54,3 +54,21 @@ pub record Examples : Type 0 where
   pub lossBeforeFive : askedLossy "8 4 1 4 4 0 0 1 1 19 7 0 1" ≡ of 4 13
   pub plannedLossy : under "BO SO H NR NE OWN SINK BURST RATE HEAD DATA ACK LOSS" "8 4 1 2 1 0 0 1 1 19 7 1 7" ≡ of 0 0
   pub lossUnderTwelve : under "BO SO H NR NE OWN SINK BURST RATE HEAD DATA ACK" "8 4 1 2 1 0 0 1 1 19 7 1 7" ≡ of 2 13
+  -- within 3 the lowest column
+  pub outside : asked "8 4 1 2 1 0 0 0 1 19 7 0" ≡ of 3 8
+  pub lowestColumn : asked "15 15 13 8 8 2 13 256 4096 127 123 2" ≡ of 3 1
+  pub lossOutside : askedLossy "8 4 1 2 1 0 0 1 1 19 7 1 8" ≡ of 3 13
+  pub ackBeforeLoss : askedLossy "8 4 1 2 1 0 0 1 1 19 7 2 8" ≡ of 3 12
+  pub lossBeforeFour : askedLossy "4 8 1 2 1 0 0 1 1 19 7 1 8" ≡ of 3 13
+  -- values at odds, in the order given
+  pub superframeTooLong : asked "4 8 1 2 1 0 0 1 1 19 7 0" ≡ of 4 2
+  pub noChildren : asked "8 4 1 0 1 0 0 1 1 19 7 0" ≡ of 4 4
+  pub noDepth : asked "8 4 0 2 1 0 0 1 1 19 7 0" ≡ of 4 4
+  pub noSensors : asked "8 4 1 2 0 0 0 1 1 19 7 0" ≡ of 4 5
+  pub sinkTooDeep : asked "8 4 1 2 1 0 2 1 1 19 7 0" ≡ of 4 7
+  pub sinkOnlyChild : asked "8 4 1 1 1 0 1 1 1 19 7 0" ≡ of 4 7
+  pub frameTooLong : asked "8 4 1 2 1 0 0 1 1 126 2 0" ≡ of 4 11
+  pub frameLongest : asked "8 4 1 2 1 0 0 1 1 126 1 0" ≡ of 0 0
+  pub firstOfFour : asked "4 8 1 0 0 0 2 1 1 126 2 0" ≡ of 4 2
+  pub unacknowledged : askedLossy "8 4 1 2 1 0 0 1 1 19 7 0 1" ≡ of 4 13
+  pub lossLast : askedLossy "8 4 1 2 1 0 0 1 1 126 2 0 1" ≡ of 4 11

@@ -1,6 +1,6 @@
 // Calls that plan a row of settings, from bytes to an answer and a text in a lent buffer (document 01, 'Rows of settings').
 //
-// No public function has a `requires`: each answers every argument, as equations with definitions of calls_model say. A refused row, also
+// No public function has a `requires`: each answers every argument, as equations with definitions of row_calls_model say. A refused row, also
 // one whose text is longer than the buffer (number 8), leaves every byte as it was.
 ghost use mathlib.Core.Path.{_≡_};
 ghost use Prim.Native.Nat.{_≤_};
@@ -14,7 +14,7 @@ use calls::refused;
 use calls_model::Answer;
 use reason_print::put_verdict;
 use refusals::Refusal;
-use report::LONGEST;
+use row_answer::decide_named_row;
 use row_answer::plan_named_row;
 
 // Plans a row under a line of names, both without their LF, and writes nothing.
@@ -22,7 +22,7 @@ pub fn check_row(names: &[u8], row: &[u8]) -> Answer
     ensures { λ r. ⌜ r ≡ checkRow (now (names .entry)) (now (row .entry)) ⌝ }
     ensures { λ r. ⌜ r .length ≤ 4476 ⌝ }
 {
-    let mut space = [0u8; LONGEST];
+    let mut space = [0u8; 1];
     answer_of(plan_named_row(names, row, &mut space))
 }
 
@@ -32,23 +32,10 @@ pub fn plan_row(names: &[u8], row: &[u8], out: &mut [u8]) -> Answer
     ensures { λ r. ⌜ left r (now (out .exit)) ≡ planRow (now (names .entry)) (now (row .entry)) (now (out .entry)) ⌝ }
     ensures { λ r. ⌜ Promised (now (row .entry)) r (now (out .exit)) ⌝ }
 {
-    if out.len() < LONGEST {
-        return plan_apart(names, row, out);
-    }
-    answer_of(plan_named_row(names, row, out))
-}
-
-// The same for a buffer that may be too short: the text is made apart from it, so that its length is known before a byte is written.
-fn plan_apart(names: &[u8], row: &[u8], out: &mut [u8]) -> Answer
-    ensures { λ r. ⌜ left r (now (out .exit)) ≡ planRow (now (names .entry)) (now (row .entry)) (now (out .entry)) ⌝ }
-{
-    let mut space = [0u8; LONGEST];
-    let plan = plan_named_row(names, row, &mut space);
-    let n = plan.length;
-    if out.len() < n {
+    let plan = plan_named_row(names, row, out);
+    if out.len() < plan.length {
         return refused(Refusal::LentTooShort);
     }
-    bytes::copy(&space[..n], out);
     answer_of(plan)
 }
 
@@ -58,10 +45,10 @@ pub fn explain_row(names: &[u8], row: &[u8], out: &mut [u8]) -> Answer
     ensures { λ r. ⌜ left r (now (out .exit)) ≡ explainRow (now (names .entry)) (now (row .entry)) (now (out .entry)) ⌝ }
     ensures { λ r. ⌜ ReadAgain r (now (out .exit)) ⌝ }
 {
-    let mut space = [0u8; LONGEST];
-    let plan = plan_named_row(names, row, &mut space);
-    let answer = answer_of(plan);
-    let verdict = plan.verdict;
+    let mut table = [0u64; 1];
+    let decided = decide_named_row(names, row, &mut table);
+    let answer = answer_of(decided);
+    let verdict = decided.verdict;
     let mut line = [0u8; reason_print::LONGEST];
     let n = put_verdict(&mut line, verdict);
     leave(answer.number, answer.place, &line[..n], out)

@@ -7,8 +7,8 @@ use lib.Dec.{lit<, lit≤}
 use Rattle.decimal_model.specs.Decimal.{digitsBy, decimal}
 use Rattle.lines.specs.Text.{ended}
 use Rattle.measure.specs.Measures.{symbols, slots, frames, frameSymbols, perInterval}
-use Rattle.network.specs.Counting.{bit, below, keep, All, each}
-use Rattle.network.specs.Model.{Network, Frame, queue}
+use Rattle.network.specs.Counting.{bit, below, keep, All}
+use Rattle.network.specs.Model.{Network, queue}
 use Rattle.network.specs.Readings.{made}
 use Rattle.network.specs.Run.{deliver, feeds, ends, arrived, endExchanges, fresh, makeReadings}
 use Rattle.network.specs.Oracle.{isStart, idle, behind, takeOldest, serve, begun, serveAll, symbol, run}

@@ -2,17 +2,12 @@
 use mathlib.Core.Path.{_≡_, refl}
 use Prim.Native.Nat.{ℕ, suc, _+_, _-_, _*_, _≤_, _<_}
 use native.Mathlib.Omega.{arith}
-use lib.Dec.{eqb}
 use Rattle.measure.specs.Measures.{frames, burst}
-use Rattle.superframe_model.proofs.OrderLaws.{interval-some, interval-most, slot-some, slot-most}
-use Rattle.superframe_model.proofs.LossLaws.{lossy-some, lossy-most}
 use Rattle.links.specs.declared.Load.{Load}
 use Rattle.links.specs.Link.{plus, times}
-use Rattle.links.specs.Answers.{Timed}
 use Rattle.measure.proofs.Conversions.{burst-is}
 use Rattle.links.proofs.LinkLaws.{after-rate, after-bound}
 use Rattle.settings_model.specs.declared.Settings.{Settings}
-use Rattle.settings_model.specs.Laws.{Checked}
 use Rattle.row_model.specs.Times.{rowTiming}
 use Rattle.row_model.specs.Loads.{sensor, left, near, above, upward, downward, sinkAt}
 

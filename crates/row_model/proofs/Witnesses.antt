@@ -3,7 +3,6 @@ use mathlib.Core.Path.{_≡_, refl, ap}
 use mathlib.Core.Bool.{Bool, true, false, cond, _&&_, false≢true}
 use mathlib.Core.List.{_∷_}
 use Prim.Native.Nat.{ℕ, zero, suc, _+_, _*_, _≤_, _<_}
-use native.Mathlib.Decide.{decLe}
 use native.Mathlib.Omega.{arith}
 use lib.Dec.{eqb, lit<, lit≤}
 use Rattle.measure.specs.Measures.{arrivals}
@@ -14,7 +13,7 @@ use Rattle.network.specs.Loads.{Linked}
 use Rattle.network.specs.Run.{deliver, feeds, ends, arrived, endExchanges, fresh, makeReadings}
 use Rattle.network.specs.Oracle.{isStart, idle, behind, takeOldest, serve, begun, serveAll, symbol, run}
 use Rattle.network.specs.Examples.{reading, first, written, received, lengthsAt, soonFrom}
-use Rattle.network.proofs.Sums.{total-ap, total-add, total-mono}
+use Rattle.network.proofs.Sums.{total-mono}
 use Rattle.network.proofs.Oracles.{every-choice-is-a-run}
 use Rattle.row_model.specs.Checks.{routers}
 use Rattle.row_model.specs.Lines.{lines}

@@ -14,7 +14,6 @@ use Rattle.measure.specs.Measures.{slots}
 use Rattle.refusals.specs.declared.Refusal.the-variants.{SlotsUsed}
 use Rattle.settings_model.specs.declared.Settings.{Settings}
 use Rattle.settings_model.specs.Checks.{radioOf}
-use Rattle.plan_model.specs.declared.Line.{Line}
 use Rattle.row_model.specs.Times.{rowTiming, reservableAt}
 use Rattle.row_model.specs.Checks.{routers, usedOffPath, usedOnPath}
 use Rattle.plan_model.specs.Times.{superframes}

@@ -23,7 +23,7 @@ use Rattle.row_model.specs.Bounds.{Sound}
 use Rattle.row_model.proofs.Conditions.{few-routers}
 use Rattle.row_model.proofs.LawsHold.{planned-exactly, every-plan-keeps}
 use Rattle.plan_model.specs.declared.Plan.{Plan}
-use Rattle.report_model.specs.Text.{text}
+use Rattle.line_table_model.specs.Rows.{rowTable}
 use Rattle.plan_model.specs.Plans.{answer}
 use Rattle.plan_model.proofs.Answered.{answer-planned}
 use Rattle.row_plan_model.specs.Inner.{checksBeforeSlots}
@@ -87,7 +87,7 @@ module _ (s : Settings) where
 
 -- ---- demand 3
 
-pub plan-keeps : (s : Settings) (r : Plan) → r ≡ answer text (outcomeOf s) → r .verdict ≡ Kept → Keeps s (lines s)
+pub plan-keeps : (s : Settings) (r : Plan) → r ≡ answer rowTable (outcomeOf s) → r .verdict ≡ Kept → Keeps s (lines s)
 plan-keeps s r e k =
-    let q = answer-planned text (outcomeOf s) (sym (ap (λ (y : Plan). y .verdict) e) ∙ k) in
+    let q = answer-planned rowTable (outcomeOf s) (sym (ap (λ (y : Plan). y .verdict) e) ∙ k) in
     subst (Keeps s) (sym (planned-exactly s (q .0) .0 (q .1) .1)) (every-plan-keeps s (q .0) (q .1))

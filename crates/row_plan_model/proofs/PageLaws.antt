@@ -1,6 +1,6 @@
 -- Lines, put one behind another. Assumes nothing.
 use mathlib.Core.Path.{_≡_, refl, sym, _∙_}
-use mathlib.Core.List.{List, [], _∷_, _++_}
+use mathlib.Core.List.{List, [], _∷_}
 use Prim.Native.Nat.{ℕ, suc, _+_, _-_, _≤_, _<_}
 use native.Mathlib.Numerals.{add-one}
 use native.Mathlib.Omega.{arith}
@@ -28,16 +28,16 @@ use Rattle.row_model.proofs.Recurrences.{sensor-some, upward-some, downward-som
 use Rattle.row_plan_model.specs.declared.Link.{Link}
 use Rattle.row_plan_model.specs.Inner.{linkOf, linkUp, linkDown}
 use Rattle.row_plan_model.specs.Pages.{Page, pushed, filled, downLinesFrom}
-use Rattle.report_model.specs.Text.{lineText}
+use Rattle.line_table_model.specs.Rows.{numbersOf}
 use Rattle.settings_model.specs.Checks.{radioOf}
 
 -- ---- one line more
 
--- a line as it is put: where it ends, its delay with the others', and the bytes
-pub pushed-made : (p : Page) (l : Line) (n : ℕ) (d : Symbols) (b : List ℕ) → n ≡ length (lineText l ++ 10 ∷ []) → d .0 ≡ upTo64 (p .delay .0 + l .figures .delay .0)
-    → b ≡ sets (p .bytes) (p .end) (lineText l ++ 10 ∷ []) → _≡_ {A = Page} (record { end = p .end + n; delay = d; bytes = b }) (pushed p l)
+-- a line as it is put: where it ends, its delay with the others', and the numbers
+pub pushed-made : (p : Page) (l : Line) (d : Symbols) (ns : List ℕ) → d .0 ≡ upTo64 (p .delay .0 + l .figures .delay .0)
+    → ns ≡ sets (p .numbers) (p .end) (numbersOf l) → _≡_ {A = Page} (record { end = p .end + 9; delay = d; numbers = ns }) (pushed p l)
 unfolding pushed
-pushed-made p l n d b en ed eb = rw (sym en, sym ed, sym eb) refl
+pushed-made p l d ns ed en = rw (sym ed, sym en) refl
 
 -- ---- the figures of a line
 
@@ -100,7 +100,7 @@ pub down-start : (s : Settings) (t : Page) → filled t (downLinesFrom s (s .sin
 down-start s t = let e : s .sink - 0 ≡ s .sink = omega arith in rw e
 
 -- lines keep the length of lent memory
-pub filled-length : (p : Page) (ls : List Line) → length (filled p ls .bytes) ≡ length (p .bytes)
+pub filled-length : (p : Page) (ls : List Line) → length (filled p ls .numbers) ≡ length (p .numbers)
 unfolding filled pushed
 filled-length p [] = refl
-filled-length p (l ∷ ls) = filled-length (pushed p l) ls ∙ length-sets (p .bytes) (p .end) (lineText l ++ 10 ∷ [])
+filled-length p (l ∷ ls) = filled-length (pushed p l) ls ∙ length-sets (p .numbers) (p .end) (numbersOf l)

@@ -24,7 +24,7 @@ use Rattle.plan_model.proofs.TimeLaws.{timed, interval-low, exchange-low}
 use Rattle.row_model.proofs.LoadBounds.{sensor-bounded, upward-bounded, downward-bounded}
 use Rattle.row_model.proofs.Recurrences.{sensor-some, upward-some, downward-some}
 use Rattle.row_plan_model.specs.Pages.{Page, pushed, filled, downLinesFrom}
-use Rattle.row_plan_model.proofs.Whole.{delays, delays-append, pageOf, filled-append, filled-text, pushed-text}
+use Rattle.row_plan_model.proofs.Whole.{delays, delays-append, pageOf, filled-append, filled-lines, pushed-lines}
 use Rattle.settings_model.specs.Checks.{radioOf}
 
 -- ---- the downward lines
@@ -103,14 +103,14 @@ module _ (s : Settings) (S : Sound s) where
       by true = end-low
       by false = omega arith
 
-  -- ---- the text
+  -- ---- the table
 
-  -- lent memory with the links' lines, as it is filled
+  -- a table with the links' lines, as it is filled
   pub links-put : (b : List ℕ) (p q r u : Page) → p ≡ pageOf b [] → q ≡ filled p (endLines s) → r ≡ filled q (upLines s (s .h)) → u ≡ filled r (downLinesFrom s (s .sink) 0) → u ≡ pageOf b (linkLines s)
   unfolding linkLines
   links-put b p q r u ep eq er eu =
       eu ∙ rw (er, eq, ep, filled-append (pageOf b []) (endLines s) (upLines s (s .h)), down-lines s (s .sink), filled-append (pageOf b []) (endLines s ++ upLines s (s .h)) (downLines s (s .sink)))
-      (filled-text b [] (linkLines s))
+      (filled-lines b [] (linkLines s))
 
   -- its delay is the total
   pub links-delay : (b : List ℕ) → pageOf b (linkLines s) .delay ≡ totalDelay s
@@ -120,4 +120,4 @@ module _ (s : Settings) (S : Sound s) where
   -- with line S it is the plan
   pub plan-put : (b : List ℕ) (u v : Page) → u ≡ pageOf b (linkLines s) → v ≡ pushed u (line Sink (s .sink) (sinkFigures s)) → v ≡ pageOf b (lines s)
   unfolding lines linkLines
-  plan-put b u v eu ev = ev ∙ rw eu (pushed-text b (linkLines s) (line Sink (s .sink) (sinkFigures s)))
+  plan-put b u v eu ev = ev ∙ rw eu (pushed-lines b (linkLines s) (line Sink (s .sink) (sinkFigures s)))

@@ -1,8 +1,7 @@
--- How the inner functions put lines. Nobody has to believe this: the contract of the entry does not use it. Assumes nothing: these are
--- definitions.
+-- How the inner functions put lines into a table. Nobody has to believe this: the contract of the entry does not use it. Assumes nothing: these
+-- are definitions.
 use Prim.Native.Nat.{ℕ, zero, suc, _+_}
-use mathlib.Core.List.{List, [], _∷_, _++_}
-use lib.ListN.{length}
+use mathlib.Core.List.{List, [], _∷_}
 use lib.Seq.{sets}
 use Rattle.measure.specs.declared.Symbols.{Symbols}
 use Rattle.measure.specs.Measures.{symbols, upTo64}
@@ -10,25 +9,25 @@ use Rattle.settings_model.specs.declared.Settings.{Settings}
 use Rattle.plan_model.specs.declared.Kind.the-variants.{Downward}
 use Rattle.plan_model.specs.declared.Line.{Line}
 use Rattle.plan_model.specs.Lines.{line}
+use Rattle.line_table_model.specs.Rows.{numbersOf}
 use Rattle.row_model.specs.Lines.{downLink}
-use Rattle.report_model.specs.Text.{lineText}
-use Rattle.row_plan_model.specs.declared.Written.{Written}
+use Rattle.row_plan_model.specs.declared.Filled.{Filled}
 
--- lent memory with a text at its front: where the text ends, the sum of its lines' delays, and all bytes
+-- a table with lines at its front: where they end, the sum of their delays, and all numbers
 pub record Page : Type 0 where
   pub end : ℕ
   pub delay : Symbols
-  pub bytes : List ℕ
+  pub numbers : List ℕ
 
-abbrev pub page : Written → List ℕ → Page
-page w b = record { end = w .end; delay = w .delay; bytes = b }
+abbrev pub page : Filled → List ℕ → Page
+page w ns = record { end = w .end; delay = w .delay; numbers = ns }
 
 -- with one line more
 unfoldable pub pushed : Page → Line → Page
 pushed p l = record {
-  end = p .end + length (lineText l ++ 10 ∷ []);
+  end = p .end + 9;
   delay = symbols (upTo64 (p .delay .0 + l .figures .delay .0));
-  bytes = sets (p .bytes) (p .end) (lineText l ++ 10 ∷ []);
+  numbers = sets (p .numbers) (p .end) (numbersOf l);
 }
 
 -- with the lines of a list

@@ -1,12 +1,12 @@
-// What the functions of rows presume of one another: definitions and laws, and no function. Crates row_check, row_loads, row_plan and
-// row_print answer them.
+// What the functions of rows presume of one another: definitions and laws, and no function. Crates row_check, row_loads,
+// row_slots and row_decide answer them.
 use links::Load;
 use links::Reservation;
 use measure::Symbols;
 use refusals::Verdict;
 
-// How far the text goes, and the sum of its lines' delays.
-pub struct Written {
+// How many numbers of a table are filled, and the sum of their lines' delays.
+pub struct Filled {
     pub end: usize,
     pub delay: Symbols,
 }

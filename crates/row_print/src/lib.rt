@@ -1,91 +1,51 @@
-// The printed plan of a row: from settings to its text or the first refusal of numbers 3 to 7 (document 01, 'The printed plan'), and demand
-// 3 with it.
+// The printed plan of a row from the numbers of its table, whatever the table holds (document 01, 'The printed plan').
 //
-// The public function has no `requires`: settings may come that nobody checked, and lent memory of any length. It answers all of them, as
-// equations with definitions of plan_model say. Inner functions presume what was decided before them; their `requires` say what.
+// No public function has a `requires`: each takes a table of any length and any numbers.
 ghost use mathlib.Core.Path.{_≡_};
-ghost use Prim.Native.Nat.{_≤_};
+ghost use Prim.Native.Nat.{_≤_, min};
 ghost use lib.ListN.{length};
 ghost use lib.Seq.{sets};
-ghost use Rattle.refusals.specs.declared.Verdict.the-variants.{Kept};
-ghost use Rattle.row_model.specs.Times.{rowTiming};
-ghost use Rattle.row_model.specs.Loads.{sensor, atSink};
-ghost use Rattle.row_model.specs.Lines.{lines};
-ghost use Rattle.row_model.specs.Outcome.{outcomeOf};
-ghost use Rattle.row_model.specs.Promise.{Keeps};
-ghost use Rattle.row_model.specs.Bounds.{Sound};
 ghost use Rattle.report_model.specs.Text.{text};
-ghost use Rattle.plan_model.specs.Plans.{answer, written};
-ghost use Rattle.row_plan_model.specs.Inner.{HeldFrom, HeldBelow, linkOf, linkUp, linkDown};
-use crate::page::put_downward;
-use crate::page::put_end;
-use crate::page::put_sink;
-use crate::page::put_upward;
-use links::Load;
-use measure::Symbols;
-use plan_common::refused_plan;
-use plan_model::Plan;
-use refusals::Verdict;
-use row_plan::decide;
-use row_plan_model::Link;
-use row_plan_model::Written;
-use settings_model::Settings;
+ghost use Rattle.line_table_model.specs.Rows.{linesIn};
+use line_table::line_at;
+use line_table::lower;
+use report::put_header;
+use report::put_line;
+use report_length::line_length;
 
-mod page; // the lines, put one behind another
+// No row has more lines: E, 12 U, 12 D and S.
+const MOST_LINES: usize = 26;
 
-// Plans any settings, and puts the plan's text at the front of lent memory, as far as there is room. Refused settings leave every byte
-// as it was. Where they are planned, demand 3 holds of the lines.
-pub fn plan_of(s: Settings, out: &mut [u8]) -> Plan
-    ensures { λ r. ⌜ r ≡ answer text (outcomeOf s) ⌝ }
-    ensures { λ r. ⌜ r .length ≤ 4476 ⌝ }
-    ensures { λ _. ⌜ now (out .exit) ≡ sets (now (out .entry)) 0 (written text (outcomeOf s)) ⌝ }
-    ensures { λ r. ⌜ (r .verdict ≡ Kept → Keeps s (lines s)) ⌝ }
+// The header line's length.
+const HEADER: usize = 56;
+
+// Puts the text of the first lines of a table, of 26 at most, as far as there is room, and answers its length.
+pub fn print(table: &[u64], lines: usize, out: &mut [u8]) -> usize
+    ensures { λ r. ⌜ r ≡ length (text (linesIn (now (table .entry)) (min lines 26))) ⌝ }
+    ensures { λ r. ⌜ r ≤ 4476 ⌝ }
+    ensures { λ _. ⌜ now (out .exit) ≡ sets (now (out .entry)) 0 (text (linesIn (now (table .entry)) (min lines 26))) ⌝ }
 {
-    let mut up = [0u64; 65];
-    let mut down = [0u64; 65];
-    let links = decide(s, &mut up, &mut down);
-    let verdict = links.verdict;
-    if let Verdict::Broken(refusal) = verdict {
-        return refused_plan(refusal);
+    let n = lower(lines, MOST_LINES);
+    let mut end = put_header(out);
+    let mut i = 0;
+    while i < n {
+        end += put_line(out, end, line_at(table, 9 * i));
+        i += 1;
     }
-    let length = put_lines(
-        out,
-        s,
-        links.interval,
-        links.end,
-        &up,
-        &down,
-        links.arriving,
-    );
-    Plan { verdict, length }
+    end
 }
 
-// Puts the planned lines behind the header line: E, U from H down to 1, D from 0 up, S; and answers the text's length.
-fn put_lines(
-    out: &mut [u8],
-    s: Settings,
-    interval: Symbols,
-    end: Link,
-    up: &[u64; 65],
-    down: &[u64; 65],
-    arriving: Load,
-) -> usize
-    requires { ⌜ Sound s ⌝ }
-    requires { ⌜ interval ≡ rowTiming s .interval ⌝ }
-    requires { ⌜ end ≡ linkOf (rowTiming s) (sensor s) ⌝ }
-    requires { ⌜ HeldFrom (linkUp s) 0 (s .h) (now up) ⌝ }
-    requires { ⌜ HeldBelow (linkDown s) (s .sink) (now down) ⌝ }
-    requires { ⌜ arriving ≡ atSink s ⌝ }
-    ensures { λ r. ⌜ r ≡ length (text (lines s)) ⌝ }
+// The length of that text: nothing is put.
+pub fn printed_length(table: &[u64], lines: usize) -> usize
+    ensures { λ r. ⌜ r ≡ length (text (linesIn (now (table .entry)) (min lines 26))) ⌝ }
     ensures { λ r. ⌜ r ≤ 4476 ⌝ }
-    ensures { λ _. ⌜ now (out .exit) ≡ sets (now (out .entry)) 0 (text (lines s)) ⌝ }
 {
-    let w = Written {
-        end: report::put_header(out),
-        delay: Symbols(0),
-    };
-    let w = put_end(out, w, s, interval, end);
-    let w = put_upward(out, w, s, interval, up);
-    let w = put_downward(out, w, s, interval, down);
-    put_sink(out, w, s, interval, arriving).end
+    let n = lower(lines, MOST_LINES);
+    let mut end = HEADER;
+    let mut i = 0;
+    while i < n {
+        end += line_length(line_at(table, 9 * i)) + 1;
+        i += 1;
+    }
+    end
 }

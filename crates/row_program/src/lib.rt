@@ -26,8 +26,8 @@ use program_model::LIMIT;
 use reason_print::put_verdict;
 use refusals::Refusal;
 use refusals::Verdict;
-use report::LONGEST;
 use report::put_refusal;
+use row_answer::decide_row;
 use row_answer::plan_row;
 use row_program_model::Piece;
 use row_program_model::Progress;
@@ -169,15 +169,15 @@ fn put_row(style: Style, heading: Heading, row: &[u8], out: &mut [u8]) -> usize
     }
 }
 
-// The line of a row. Its plan is made apart and left there.
+// The line of a row. It is decided, and nothing of it printed.
 fn put_reason(heading: Heading, row: &[u8], out: &mut [u8]) -> usize
     ensures { λ r. ⌜ r ≡ length (printed Reasons (rowOutcome heading (now (row .entry)))) ⌝ }
     ensures { λ r. ⌜ r ≤ 4476 ⌝ }
     ensures { λ _. ⌜ now (out .exit) ≡ sets (now (out .entry)) 0 (printed Reasons (rowOutcome heading (now (row .entry)))) ⌝ }
 {
-    let mut space = [0u8; LONGEST];
-    let plan = plan_row(heading, row, &mut space);
-    let verdict = plan.verdict;
+    let mut table = [0u64; 1];
+    let decided = decide_row(heading, row, &mut table);
+    let verdict = decided.verdict;
     put_spoken(verdict, out)
 }
 

@@ -22,6 +22,7 @@ use Rattle.row_read_model.specs.Names.{nameLine, headingOf, isOther}
 use Rattle.row_read_model.specs.Rows.{named}
 use Rattle.refusals.specs.Outcome.{Planned, Refused}
 use Rattle.row_model.specs.Outcome.{RowOutcome}
+use Rattle.plan_model.specs.declared.Line.{Line}
 use Rattle.plan_model.specs.Plans.{planned, refused, answer}
 use Rattle.report_model.specs.Text.{text}
 use Rattle.reason_model.specs.Reasons.{spoken}
@@ -81,11 +82,11 @@ module _ (s : Style) (input : List ℕ) (heading : Heading) (e : heading ≡ hea
       let w = rw e at v in
       rw e (ap₂ (opened (headingIn input)) (answer-kept _ [] (inputConditions input) w) (answer-kept _ (behind (lineAt input 0)) (inputConditions input) w))
 
--- a row's line, by its verdict
-pub spoken-verdict : (o : RowOutcome) → ended (spoken (answer text o .verdict) ∷ []) ≡ printed Reasons o
+-- a row's line, by its verdict, whatever its plan is put as
+pub spoken-verdict : (put : List Line → List ℕ) (o : RowOutcome) → ended (spoken (answer put o .verdict) ∷ []) ≡ printed Reasons o
 unfolding printed answer planned refused
-spoken-verdict (Planned p) = refl
-spoken-verdict (Refused r) = refl
+spoken-verdict put (Planned p) = refl
+spoken-verdict put (Refused r) = refl
 
 -- a text and its LF
 pub ended-one : (t : List ℕ) → ended (t ∷ []) ≡ t ++ 10 ∷ []

@@ -150,4 +150,4 @@ unfolding rowsPrinted ended
 one-line-for-row h [] = refl
 one-line-for-row h (r ∷ rs) =
     let t : List ℕ = spoken (answer text (rowOutcome h r) .verdict) in
-    rw (sym (spoken-verdict (rowOutcome h r)), one-line-for-row h rs) (append-assoc t (10 ∷ []) _)
+    rw (sym (spoken-verdict text (rowOutcome h r)), one-line-for-row h rs) (append-assoc t (10 ∷ []) _)

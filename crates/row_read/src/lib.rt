@@ -1,5 +1,5 @@
-// Rows of settings (document 01, 'Rows of settings'; document 02, E5): from bytes to checked settings, or to the first refusal of numbers
-// 1 to 4 with its place.
+// Rows of settings (document 01, 'Rows of settings'; document 02, E5): from bytes to the settings that they spell, or to the first refusal of
+// numbers 1 and 2 with its place. Nobody has checked the settings yet: whoever decides on them does.
 //
 // No public function has a `requires`: each answers every argument, as an equation with a definition of row_read_model says. Nothing is
 // written anywhere.
@@ -42,7 +42,7 @@ pub fn is_other(heading: Heading) -> bool
     }
 }
 
-// A row from its bytes, without its LF, under a line of names: refusals 1 to 4. An LF in it is a byte like any other.
+// A row from its bytes, without its LF, under a line of names: refusals 1 and 2. An LF in it is a byte like any other.
 pub fn read_row(heading: Heading, row: &[u8]) -> Row
     ensures { λ r. ⌜ r ≡ rowUnder heading (now (row .entry)) ⌝ }
 {
@@ -55,15 +55,10 @@ pub fn read_row(heading: Heading, row: &[u8]) -> Row
         return Row::Refused(refusal);
     }
     let numbers = read.numbers;
-    let settings = settings_of(numbers);
-    let verdict = settings::check(settings);
-    if let Verdict::Broken(refusal) = verdict {
-        return Row::Refused(refusal);
-    }
-    Row::Read(settings)
+    Row::Read(settings_of(numbers))
 }
 
-// A row and its line of names, both as bytes without their LF: refusals 1 to 4.
+// A row and its line of names, both as bytes without their LF: refusals 1 and 2.
 pub fn read_named_row(names: &[u8], row: &[u8]) -> Row
     ensures { λ r. ⌜ r ≡ namedRow (now (names .entry)) (now (row .entry)) ⌝ }
 {

@@ -3,14 +3,15 @@ use mathlib.Core.Path.{refl}
 use Rattle.decimal_model.specs.Ascii.{ascii}
 use Rattle.decimal_model.specs.Number.{digits, zeroLed, shaped, readable, spelledAfter}
 use Rattle.lines.specs.Text.{same, before, pieces, fields, joined}
-use Rattle.refusals.specs.Refusals.{conflictPlace, numberOf, placeOf}
-use Rattle.settings_model.proofs.Computing.{checking}
+use Rattle.refusals.specs.Refusals.{numberOf, placeOf}
+use Rattle.refusals.specs.Conditions.{firstBroken}
+use Rattle.settings_model.specs.Columns.{twelve, table}
 use Rattle.row_read_model.specs.Names.{nameLine, headingOf, isOther, columnsUnder}
 use Rattle.row_read_model.specs.Rows.{named, written, valuesIn, settingsOf, conditions, rowUnder, namedRow}
 use Rattle.row_read_model.specs.Examples.{answered, under, asked, askedLossy, behind, behindLoss, Examples}
 
 pub examples-hold : Examples
-unfolding ascii digits zeroLed shaped readable spelledAfter before pieces fields joined nameLine same headingOf isOther columnsUnder conflictPlace numberOf placeOf checking named written valuesIn settingsOf conditions rowUnder namedRow answered under asked askedLossy behind behindLoss
+unfolding ascii digits zeroLed shaped readable spelledAfter before pieces fields joined nameLine same headingOf isOther columnsUnder numberOf placeOf firstBroken twelve table named written valuesIn settingsOf conditions rowUnder namedRow answered under asked askedLossy behind behindLoss
 examples-hold = record {
   names = refl;
   lossyNames = refl;
@@ -50,22 +51,4 @@ examples-hold = record {
   nothingBehindLoss = refl;
   spaceBehindLoss = refl;
   valueBehindLoss = refl;
-  outside = refl;
-  twoBeforeThree = refl;
-  threeBeforeFour = refl;
-  lowestColumn = refl;
-  lossOutside = refl;
-  ackBeforeLoss = refl;
-  lossBeforeFour = refl;
-  superframeTooLong = refl;
-  noChildren = refl;
-  noDepth = refl;
-  noSensors = refl;
-  sinkTooDeep = refl;
-  sinkOnlyChild = refl;
-  frameTooLong = refl;
-  frameLongest = refl;
-  firstOfFour = refl;
-  unacknowledged = refl;
-  lossLast = refl;
 }

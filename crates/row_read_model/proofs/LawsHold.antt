@@ -1,25 +1,23 @@
 -- The laws of specs/Laws. Assumes nothing.
-use mathlib.Core.Path.{_≡_, refl, ap, sym, _∙_, subst}
+use mathlib.Core.Path.{_≡_, ap, sym, _∙_}
 use mathlib.Core.Bool.{Bool, true, false, false≢true}
-use mathlib.Core.List.{List, _++_}
+use mathlib.Core.List.{List}
 use Prim.Native.Nat.{ℕ}
 use lib.ListN.{length, take}
 use Rattle.lines.specs.Text.{fields, joined}
 use Rattle.lines.proofs.Joining.{joined-fields}
 use Rattle.refusals.specs.declared.Refusal.{Refusal}
 use Rattle.refusals.specs.declared.Verdict.the-variants.{Kept, Broken}
-use Rattle.refusals.specs.Conditions.{Condition, Unbroken}
-use Rattle.refusals.proofs.Unbroken.{unbroken-first, first-unbroken, unbroken-append, unbroken-left, unbroken-right}
+use Rattle.refusals.specs.Conditions.{Unbroken}
+use Rattle.refusals.proofs.Unbroken.{unbroken-first, first-unbroken, unbroken-right}
 use Rattle.settings_model.specs.declared.Settings.{Settings}
-use Rattle.settings_model.specs.Checks.{valuesOf, checks}
-use Rattle.settings_model.specs.Laws.{Checked}
-use Rattle.settings_model.proofs.LawsHold.{unbroken-where-checked}
+use Rattle.settings_model.specs.Checks.{valuesOf}
 use Rattle.row_read_model.specs.declared.Heading.{Heading}
 use Rattle.row_read_model.specs.declared.Row.{Row}
 use Rattle.row_read_model.specs.declared.Row.the-variants.{Read, Refused}
 use Rattle.row_read_model.specs.Names.{columnsUnder}
 use Rattle.row_read_model.specs.Rows.{named, written, valuesIn, settingsOf, conditions, rowUnder}
-use Rattle.row_read_model.specs.Laws.{ReadWhereUnbroken, ReadIsChecked, CheckedIsRead, OneRowForSettings}
+use Rattle.row_read_model.specs.Laws.{ReadWhereUnbroken, OneRowForSettings}
 use Rattle.row_read_model.proofs.RowCases.{values-length}
 use Rattle.row_read_model.proofs.Elements.{values-of-settings}
 use Rattle.row_read_model.proofs.OneText.{same-values}
@@ -46,37 +44,10 @@ read-where-unbroken heading row s = (
   λ h. unbroken-first Refused (Read (settingsOf (valuesIn row))) (conditions heading row) (h .0) ∙ ap Read (h .1),
 )
 
--- the parts of a row's conditions
-module _ (heading : Heading) (row : List ℕ) where
-  abbrev of-text : List (Condition Refusal)
-  of-text = written 1 (columnsUnder heading) (fields row)
-
-  abbrev of-settings : List (Condition Refusal)
-  of-settings = checks (settingsOf (valuesIn row))
-
-  module _ (u : Unbroken (conditions heading row)) where
-    is-written : Unbroken (written 1 (columnsUnder heading) (fields row))
-    unfolding conditions
-    is-written = unbroken-left of-text of-settings (unbroken-right (named heading) (of-text ++ of-settings) u)
-
-    is-checked : Checked (settingsOf (valuesIn row))
-    unfolding conditions
-    is-checked =
-        unbroken-where-checked (settingsOf (valuesIn row)) .0 (unbroken-right of-text of-settings (unbroken-right (named heading) (of-text ++ of-settings) u))
-
-pub read-is-checked : ReadIsChecked
-read-is-checked heading row s e =
-    let h = read-where-unbroken heading row s .0 e in
-    subst Checked (h .1) (is-checked heading row (h .0))
-
-pub checked-is-read : CheckedIsRead
+-- a row of which no condition is broken is written
+is-written : (heading : Heading) (row : List ℕ) → Unbroken (conditions heading row) → Unbroken (written 1 (columnsUnder heading) (fields row))
 unfolding conditions
-checked-is-read heading row n w k =
-    let s = settingsOf (valuesIn row) in
-    read-where-unbroken heading row s .1 (
-      unbroken-append (named heading) (of-text heading row ++ checks s) n (unbroken-append (of-text heading row) (checks s) w (unbroken-where-checked s .1 k)),
-      refl,
-    )
+is-written heading row u = unbroken-right (named heading) (written 1 (columnsUnder heading) (fields row)) u
 
 -- a row that is written has as many values as there are columns
 all-values : (heading : Heading) (row : List ℕ) → Unbroken (written 1 (columnsUnder heading) (fields row)) → length (valuesIn row) ≡ length (columnsUnder heading)

@@ -1,7 +1,7 @@
--- What a row is, by the verdicts on number 2 and on its settings. Assumes nothing.
+-- What a row is, by the verdict on number 2. Assumes nothing.
 use mathlib.Core.Path.{_≡_, refl, ap, sym, _∙_}
 use mathlib.Core.Bool.{Bool, true, false, not, cond}
-use mathlib.Core.List.{List, [], _∷_, _++_}
+use mathlib.Core.List.{List, [], _∷_}
 use Prim.Native.Nat.{ℕ, suc}
 use lib.ListN.{length, length-map}
 use Rattle.decimal_model.specs.Number.{readable, spelled}
@@ -10,9 +10,8 @@ use Rattle.refusals.specs.declared.Refusal.{Refusal}
 use Rattle.refusals.specs.declared.Refusal.the-variants.{Names, Unreadable, TextAfter}
 use Rattle.refusals.specs.declared.Verdict.the-variants.{Kept, Broken}
 use Rattle.refusals.specs.Conditions.{firstBroken}
-use Rattle.refusals.proofs.Answering.{verdict, broken-kept, answer-broken, answer-kept, first-part-answers, second-part-answers}
+use Rattle.refusals.proofs.Answering.{verdict, broken-kept, answer-broken, answer-kept}
 use Rattle.settings_model.specs.Columns.{Column}
-use Rattle.settings_model.specs.Checks.{checks}
 use Rattle.row_read_model.specs.declared.Row.the-variants.{Read, Refused}
 use Rattle.row_read_model.specs.declared.Heading.{Heading}
 use Rattle.row_read_model.specs.Names.{isOther, columnsUnder}
@@ -44,19 +43,12 @@ module _ (heading : Heading) (row : List ℕ) where
   row-unnamed e = rw e
 
   module _ (n : isOther heading ≡ false) where
-    by-names : firstBroken Refused (Read (settingsOf (valuesIn row))) (written 1 cs (fields row) ++ checks (settingsOf (valuesIn row))) ≡ rowUnder heading row
+    by-names : firstBroken Refused (Read (settingsOf (valuesIn row))) (written 1 cs (fields row)) ≡ rowUnder heading row
     unfolding rowUnder conditions named firstBroken
     by-names = rw n
 
     pub row-unwritten : (x : Refusal) → verdict (written 1 (columnsUnder heading) (fields row)) ≡ Broken x → Refused x ≡ rowUnder heading row
-    row-unwritten x e = first-part-answers Refused _ (written 1 cs (fields row)) _ x e ∙ by-names
+    row-unwritten x e = sym (answer-broken Refused _ (written 1 cs (fields row)) x e) ∙ by-names
 
-    module _ (w : verdict (written 1 (columnsUnder heading) (fields row)) ≡ Kept) where
-      by-checks : firstBroken Refused (Read (settingsOf (valuesIn row))) (checks (settingsOf (valuesIn row))) ≡ rowUnder heading row
-      by-checks = second-part-answers Refused _ (written 1 cs (fields row)) _ w ∙ by-names
-
-      pub row-unchecked : (x : Refusal) → verdict (checks (settingsOf (valuesIn row))) ≡ Broken x → Refused x ≡ rowUnder heading row
-      row-unchecked x e = sym (answer-broken Refused _ (checks (settingsOf (valuesIn row))) x e) ∙ by-checks
-
-      pub row-read : verdict (checks (settingsOf (valuesIn row))) ≡ Kept → Read (settingsOf (valuesIn row)) ≡ rowUnder heading row
-      row-read e = sym (answer-kept Refused _ (checks (settingsOf (valuesIn row))) e) ∙ by-checks
+    pub row-read : verdict (written 1 (columnsUnder heading) (fields row)) ≡ Kept → Read (settingsOf (valuesIn row)) ≡ rowUnder heading row
+    row-read w = sym (answer-kept Refused _ (written 1 cs (fields row)) w) ∙ by-names

@@ -1,7 +1,7 @@
 -- A row of twelve values and the same row with LOSS 0 have the same answer. Assumes nothing.
 use mathlib.Core.Path.{_≡_, refl, ap, sym, _∙_}
 use mathlib.Core.Bool.{not, cond}
-use mathlib.Core.List.{List, [], _∷_, _++_, map, map-append}
+use mathlib.Core.List.{List, [], _∷_, _++_, map, map-append, append-nil}
 use Prim.Native.Nat.{ℕ, suc, _≤_}
 use native.Mathlib.Omega.{arith}
 use native.Mathlib.Decide.{decLe}
@@ -17,7 +17,6 @@ use Rattle.refusals.specs.declared.Refusal.the-variants.{Unreadable}
 use Rattle.refusals.specs.Conditions.{Condition, firstBroken}
 use Rattle.refusals.proofs.Answering.{first-append}
 use Rattle.settings_model.specs.Columns.{Column, twelve, table}
-use Rattle.settings_model.specs.Checks.{checks}
 use Rattle.row_read_model.specs.declared.Heading.the-variants.{Twelve, Thirteen}
 use Rattle.row_read_model.specs.declared.Row.the-variants.{Read, Refused}
 use Rattle.row_read_model.specs.Names.{nameLine, headingOf, isOther, columnsUnder}
@@ -89,4 +88,6 @@ names-of-thirteen = refl
 pub same-without-loss : SameWithoutLoss
 unfolding rowUnder conditions named isOther columnsUnder firstBroken
 same-without-loss row e =
-    rw (settings-without-loss row e) (written-without-loss Refused (Read (settingsOf (valuesIn row))) row (checks (settingsOf (valuesIn row))) e)
+    rw (settings-without-loss row e)
+    (rw (append-nil (written 1 table (fields (withZero row))), append-nil (written 1 twelve (fields row))) at
+    (written-without-loss Refused (Read (settingsOf (valuesIn row))) row [] e))

@@ -1,4 +1,4 @@
--- Document 01's examples of refusals 1 to 4, with document 02's E5, and cases at their edges, computed in one table. Assumes nothing.
+-- Document 01's examples of refusals 1 and 2, with document 02's E5, and cases at their edges, computed in one table. Assumes nothing.
 use mathlib.Core.Path.{_≡_}
 use mathlib.Core.List.{List, [], _∷_, _++_}
 use Prim.Native.Nat.{ℕ}
@@ -85,23 +85,3 @@ pub record Examples : Type 0 where
   pub nothingBehindLoss : behindLoss [] ≡ of 0 0
   pub spaceBehindLoss : behindLoss (32 ∷ []) ≡ of 2 14
   pub valueBehindLoss : behindLoss (32 ∷ 48 ∷ []) ≡ of 2 14
-  -- all of 2 before any of 3, all of 3 before 4, the lowest column first
-  pub outside : asked "8 4 1 2 1 0 0 0 1 19 7 0" ≡ of 3 8
-  pub twoBeforeThree : asked "8 4 1 2 1 0 0 0 1 19 7 x" ≡ of 2 12
-  pub threeBeforeFour : asked "4 8 1 2 1 0 0 1 1 19 7 2" ≡ of 3 12
-  pub lowestColumn : asked "15 15 13 8 8 2 13 256 4096 127 123 2" ≡ of 3 1
-  pub lossOutside : askedLossy "8 4 1 2 1 0 0 1 1 19 7 1 8" ≡ of 3 13
-  pub ackBeforeLoss : askedLossy "8 4 1 2 1 0 0 1 1 19 7 2 8" ≡ of 3 12
-  pub lossBeforeFour : askedLossy "4 8 1 2 1 0 0 1 1 19 7 1 8" ≡ of 3 13
-  -- values at odds, in the order given
-  pub superframeTooLong : asked "4 8 1 2 1 0 0 1 1 19 7 0" ≡ of 4 2
-  pub noChildren : asked "8 4 1 0 1 0 0 1 1 19 7 0" ≡ of 4 4
-  pub noDepth : asked "8 4 0 2 1 0 0 1 1 19 7 0" ≡ of 4 4
-  pub noSensors : asked "8 4 1 2 0 0 0 1 1 19 7 0" ≡ of 4 5
-  pub sinkTooDeep : asked "8 4 1 2 1 0 2 1 1 19 7 0" ≡ of 4 7
-  pub sinkOnlyChild : asked "8 4 1 1 1 0 1 1 1 19 7 0" ≡ of 4 7
-  pub frameTooLong : asked "8 4 1 2 1 0 0 1 1 126 2 0" ≡ of 4 11
-  pub frameLongest : asked "8 4 1 2 1 0 0 1 1 126 1 0" ≡ of 0 0
-  pub firstOfFour : asked "4 8 1 0 0 0 2 1 1 126 2 0" ≡ of 4 2
-  pub unacknowledged : askedLossy "8 4 1 2 1 0 0 1 1 19 7 0 1" ≡ of 4 13
-  pub lossLast : askedLossy "8 4 1 2 1 0 0 1 1 126 2 0 1" ≡ of 4 11

@@ -8,28 +8,16 @@ use Rattle.decimal_model.specs.Ascii.{ascii}
 use Rattle.lines.specs.Text.{fields}
 use Rattle.refusals.specs.Conditions.{Unbroken}
 use Rattle.settings_model.specs.declared.Settings.{Settings}
-use Rattle.settings_model.specs.Laws.{Checked}
 use Rattle.row_read_model.specs.declared.Heading.{Heading}
 use Rattle.row_read_model.specs.declared.Heading.the-variants.{Twelve, Thirteen}
 use Rattle.row_read_model.specs.declared.Row.the-variants.{Read}
-use Rattle.row_read_model.specs.Names.{columnsUnder}
-use Rattle.row_read_model.specs.Rows.{named, written, valuesIn, settingsOf, conditions, rowUnder}
+use Rattle.row_read_model.specs.Rows.{valuesIn, settingsOf, conditions, rowUnder}
 
 -- a row is read exactly where none of its conditions is broken, and then as what it spells
 abbrev pub ReadWhereUnbroken : Type 0
 ReadWhereUnbroken =
     (heading : Heading) (row : List ℕ) (s : Settings)
     → (rowUnder heading row ≡ Read s) ↔ (Unbroken (conditions heading row) × (settingsOf (valuesIn row) ≡ s))
-
--- what is read is checked
-abbrev pub ReadIsChecked : Type 0
-ReadIsChecked = (heading : Heading) (row : List ℕ) (s : Settings) → rowUnder heading row ≡ Read s → Checked s
-
--- as many readable values as names, if they are checked, are read
-abbrev pub CheckedIsRead : Type 0
-CheckedIsRead =
-    (heading : Heading) (row : List ℕ) → Unbroken (named heading) → Unbroken (written 1 (columnsUnder heading) (fields row))
-    → Checked (settingsOf (valuesIn row)) → rowUnder heading row ≡ Read (settingsOf (valuesIn row))
 
 -- two different rows under the same names never give the same settings
 abbrev pub OneRowForSettings : Type 0

@@ -11,7 +11,6 @@ use Rattle.refusals.specs.declared.Refusal.the-variants.{Names, Unreadable, Tex
 use Rattle.refusals.specs.Conditions.{Condition, condition, firstBroken}
 use Rattle.settings_model.specs.declared.Settings.{Settings}
 use Rattle.settings_model.specs.Columns.{Column}
-use Rattle.settings_model.specs.Checks.{checks}
 use Rattle.row_read_model.specs.declared.Row.{Row}
 use Rattle.row_read_model.specs.declared.Row.the-variants.{Read, Refused}
 use Rattle.row_read_model.specs.declared.Heading.{Heading}
@@ -51,11 +50,11 @@ settingsOf vs = record {
   loss = getD vs 12 0;
 }
 
--- numbers 1 to 4 of a row under a line of names, without its LF, in their order
+-- numbers 1 and 2 of a row under a line of names, without its LF, in their order
 unfoldable pub conditions : Heading → List ℕ → List (Condition Refusal)
-conditions heading row = named heading ++ (written 1 (columnsUnder heading) (fields row) ++ checks (settingsOf (valuesIn row)))
+conditions heading row = named heading ++ written 1 (columnsUnder heading) (fields row)
 
--- its settings, or the first refusal
+-- its settings, which nobody has checked, or the first refusal
 unfoldable pub rowUnder : Heading → List ℕ → Row
 rowUnder heading row = firstBroken Refused (Read (settingsOf (valuesIn row))) (conditions heading row)
 

@@ -1,4 +1,4 @@
-// Runs the compiled functions of row_read on texts at the edges of 'Rows of settings', with LOSS and without, and writes what they answer. The file `stdout`
+// Runs the compiled functions of row_read, and of settings behind them, on texts at the edges of 'Rows of settings', with LOSS and without, and writes what they answer. The file `stdout`
 // beside src/ has what document 01 asks, worked out by another implementation; the check compares the two.
 use libc::STDIN_FILENO;
 use libc::STDOUT_FILENO;
@@ -7,6 +7,7 @@ use lines::Line;
 use lines::next_line;
 use lines::part;
 use refusals::Refusal;
+use refusals::Verdict;
 use row_read::heading_of;
 use row_read::is_other;
 use row_read::read_named_row;
@@ -159,9 +160,19 @@ fn row_line(heading: Heading, text: &[u8], start: usize, end: usize) {
 
 fn answer(row: Row) {
     match row {
-        Row::Read(settings) => read(settings),
+        Row::Read(settings) => checked(settings),
         Row::Refused(refusal) => refused(refusal),
     }
+}
+
+// Settings that keep numbers 3 and 4, or the refusal.
+fn checked(s: Settings) {
+    let verdict = settings::check(s);
+    if let Verdict::Broken(refusal) = verdict {
+        refused(refusal);
+        return;
+    }
+    read(s);
 }
 
 fn refused(refusal: Refusal) {

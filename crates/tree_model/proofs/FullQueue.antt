@@ -1,18 +1,15 @@
 -- The queue that is filled to BUFFER, without and with loss (specs/Witness). Assumes nothing.
 use mathlib.Core.Path.{_≡_, refl, subst}
-use mathlib.Core.Bool.{Bool, true, false, cond, _&&_}
 use mathlib.Core.List.{List, [], _∷_}
-use Prim.Native.Nat.{ℕ, zero, suc, _+_, _≤_, _<_}
+use Prim.Native.Nat.{ℕ, zero, suc, _≤_, _<_}
 use native.Mathlib.Omega.{arith}
-use lib.Dec.{eqb, lit<, lit≤}
+use lib.Dec.{lit<, lit≤}
 use lib.ListN.{length}
-use Rattle.network.specs.Counting.{total, bit, none, each}
+use Rattle.network.specs.Counting.{none, each}
 use Rattle.network.specs.Model.{Network, queue}
-use Rattle.network.specs.Readings.{made}
 use Rattle.network.specs.Loads.{Linked}
 use Rattle.network.specs.Oracle.{run}
 use Rattle.network.specs.Examples.{reading, first, received, soonFrom}
-use Rattle.network.proofs.Sums.{total-ap, total-add, total-zero}
 use Rattle.plan_model.specs.declared.Kind.the-variants.{EndNode, Sink}
 use Rattle.plan_model.specs.Lines.{columns}
 use Rattle.network.proofs.Stretches.{soon-makes, soon-none}

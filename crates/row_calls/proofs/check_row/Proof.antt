@@ -2,8 +2,8 @@
 use Rattle.row_answer_model.specs.Outcomes.{namedOutcome}
 use Rattle.report_model.specs.Text.{text}
 use Rattle.row_calls_model.specs.Entries.{checkRow}
-use borrow.Author.Needs.{needs}
 use Rattle.calls_model.proofs.Leaving.{plan-told, told-short}
+use borrow.Author.Needs.{needs}
 use Rattle.row_calls.proofs.check_row.Statement.{statement}
 use Rattle.row_calls.proofs.check_row.Tie as tie
 
@@ -20,11 +20,9 @@ returns : tie.Need-returns
 unfolding checkRow
 returns c =
     let a = c .before .before .before .before .before .before .args in
-    let plan = c .before .before .plan-named-row in
-    let w = plan .ensures in (
-      plan-told text (namedOutcome (a .names .now) (a .row .now)) (plan .result) (w .0) _ (c .answer-of .ensures),
-      told-short text (namedOutcome (a .names .now) (a .row .now)) (plan .result) (w .0) 4476 _ (c .answer-of .ensures) (w .1 .0),
-    )
+    let w = c .before .before .plan-named-row in
+    let o = namedOutcome (a .names .now) (a .row .now) in
+    (plan-told text o (w .result) (w .ensures .0) _ (c .answer-of .ensures), told-short text o (w .result) (w .ensures .0) 4476 _ (c .answer-of .ensures) (w .ensures .1 .0))
 
 pub check-row-spec : {M : Type 1} → statement M
 check-row-spec =

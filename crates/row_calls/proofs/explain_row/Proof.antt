@@ -11,15 +11,18 @@ use Rattle.reason_model.specs.Reasons.{spoken}
 use Rattle.row_calls_model.specs.Entries.{rowLine, explainRow}
 use Rattle.calls_model.proofs.Leaving.{plan-told}
 use Rattle.calls_model.proofs.ReasonLines.{line-again}
+use Rattle.calls_model.proofs.Telling.{number-same, place-same, verdict-same}
+use Rattle.calls_model.specs.declared.Answer.{Answer}
+use Rattle.line_table_model.specs.Rows.{rowTable}
 use borrow.Author.Needs.{needs}
 use Rattle.row_calls.proofs.explain_row.Statement.{statement}
 use Rattle.row_calls.proofs.explain_row.Tie as tie
 
-slice-aggregate-plan-named-row : tie.Need-slice-aggregate-plan-named-row
-slice-aggregate-plan-named-row c = search needs
+slice-aggregate-decide-named-row : tie.Need-slice-aggregate-decide-named-row
+slice-aggregate-decide-named-row c = search needs
 
-plan-named-row-requires : tie.Need-plan-named-row-requires
-plan-named-row-requires c κs = search needs
+decide-named-row-requires : tie.Need-decide-named-row-requires
+decide-named-row-requires c κs = search needs
 
 answer-of-requires : tie.Need-answer-of-requires
 answer-of-requires c κs = search needs
@@ -46,21 +49,23 @@ returns : tie.Need-returns
 unfolding explainRow rowLine spoken
 returns c =
     let a = c .before .before .before .before .before .before .before .before .before .before .before .before .before .before .before .args in
-    let plan = c .before .before .before .before .before .before .before .before .before .before .plan-named-row in
+    let plan = c .before .before .before .before .before .before .before .before .before .before .decide-named-row in
     let o = namedOutcome (a .names .now) (a .row .now) in
-    let t = plan-told text o (plan .result) (plan .ensures .0) _ (c .before .before .before .before .before .before .before .before .answer-of .ensures) in
+    let t = plan-told rowTable o (plan .result) (plan .ensures .0) _ (c .before .before .before .before .before .before .before .before .answer-of .ensures) in
     let p = c .before .before .before .before .before .before .put-verdict in
-    let v = ap (λ (x : Plan). spoken (x .verdict)) (plan .ensures .0) in
+    let n = ap (λ (x : Answer). x .number) t ∙ number-same rowTable text o in
+    let z = ap (λ (x : Answer). x .place) t ∙ place-same rowTable text o in
+    let v = ap spoken (ap (λ (x : Plan). x .verdict) (plan .ensures .0) ∙ verdict-same rowTable text o) in
     let e = put-front (p .last .0) (replicate 160 0) _ (p .result) (p .ensures .0) (omega (arith, p .ensures .1 .0)) (p .ensures .1 .1) ∙ v in
-    let l = rw (e, t) at (c .before .before .leave .ensures) in
+    let l = rw (e, n, z) at (c .before .before .leave .ensures) in
     (l, line-again text spoken (λ r. refl) o (a .out .now) _ _ l (omega (arith, c .before .before .leave .ok)))
 
 pub explain-row-spec : {M : Type 1} → statement M
 explain-row-spec =
     tie.close
     (tie.spec
-    slice-aggregate-plan-named-row
-    plan-named-row-requires
+    slice-aggregate-decide-named-row
+    decide-named-row-requires
     answer-of-requires
     slice-aggregate-put-verdict
     put-verdict-requires

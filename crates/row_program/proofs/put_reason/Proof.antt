@@ -5,16 +5,17 @@ use Rattle.lines.specs.Text.{ended}
 use Rattle.plan_model.specs.declared.Plan.{Plan}
 use Rattle.row_answer_model.specs.Outcomes.{rowOutcome}
 use Rattle.reason_model.specs.Reasons.{spoken}
+use Rattle.line_table_model.specs.Rows.{rowTable}
 use Rattle.row_program_model.proofs.Inputs.{spoken-verdict}
 use borrow.Author.Needs.{needs}
 use Rattle.row_program.proofs.put_reason.Statement.{statement}
 use Rattle.row_program.proofs.put_reason.Tie as tie
 
-slice-aggregate-plan-row : tie.Need-slice-aggregate-plan-row
-slice-aggregate-plan-row c = search needs
+slice-aggregate-decide-row : tie.Need-slice-aggregate-decide-row
+slice-aggregate-decide-row c = search needs
 
-plan-row-requires : tie.Need-plan-row-requires
-plan-row-requires c κs = search needs
+decide-row-requires : tie.Need-decide-row-requires
+decide-row-requires c κs = search needs
 
 put-spoken-requires : tie.Need-put-spoken-requires
 put-spoken-requires c κs = search needs
@@ -26,10 +27,10 @@ returns : tie.Need-returns
 returns c =
     let a = c .before .before .before .before .before .before .before .before .before .args in
     let o = rowOutcome (a .heading) (a .row .now) in
-    let e = ap (λ (p : Plan). ended (spoken (p .verdict) ∷ [])) (c .before .before .before .before .before .plan-row .ensures .0) ∙ spoken-verdict o in
+    let e = ap (λ (p : Plan). ended (spoken (p .verdict) ∷ [])) (c .before .before .before .before .before .decide-row .ensures .0) ∙ spoken-verdict rowTable o in
     rw e at (c .before .before .put-spoken .ensures)
 
 pub put-reason-spec : {M : Type 1} → statement M
 put-reason-spec =
     tie.close
-    (tie.spec slice-aggregate-plan-row plan-row-requires put-spoken-requires same-length returns)
+    (tie.spec slice-aggregate-decide-row decide-row-requires put-spoken-requires same-length returns)

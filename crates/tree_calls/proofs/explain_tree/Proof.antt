@@ -15,7 +15,7 @@ use Rattle.calls_model.specs.declared.Answer.{Answer}
 use Rattle.tree_calls_model.specs.Entries.{checkTree, treeSpoken, explainTree}
 use Rattle.calls_model.proofs.Leaving.{plan-told}
 use Rattle.calls_model.proofs.ReasonLines.{line-again}
-use Rattle.tree_calls.proofs.Telling.{number-same, place-same, verdict-same}
+use Rattle.calls_model.proofs.Telling.{number-same, place-same, verdict-same}
 use borrow.Author.Needs.{needs}
 use Rattle.tree_calls.proofs.explain_tree.Statement.{statement}
 use Rattle.tree_calls.proofs.explain_tree.Tie as tie

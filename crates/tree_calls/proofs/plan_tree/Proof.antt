@@ -15,7 +15,7 @@ use Rattle.calls_model.specs.Calls.{left}
 use Rattle.tree_calls_model.specs.Entries.{planTree}
 use Rattle.calls_model.proofs.Leaving.{plan-left, plan-short}
 use Rattle.tree_calls_model.proofs.LawsHold.{promised-tree-left}
-use Rattle.tree_calls.proofs.Telling.{within-room, no-room}
+use Rattle.calls_model.proofs.Telling.{within-room, no-room}
 use borrow.Author.Needs.{needs}
 use Rattle.tree_calls.proofs.plan_tree.Statement.{statement}
 use Rattle.tree_calls.proofs.plan_tree.Tie as tie

@@ -8,7 +8,8 @@ use Rattle.plan_model.specs.declared.NodeLine.{NodeLine}
 use Rattle.tree_read_model.specs.Survey.{outcomeIn}
 use Rattle.report_model.specs.TreeText.{treeText}
 use Rattle.plan_model.proofs.Answered.{refused-answer, refused-short, refused-put, planned-answer, planned-put}
-use Rattle.tree_plan.proofs.Printing.{decided-refused, decided-back, refused-never}
+use Rattle.line_table_model.proofs.Decided.{refused-never}
+use Rattle.tree_plan.proofs.Printing.{decided-refused, decided-back}
 use borrow.Author.Needs.{needs}
 use Rattle.tree_plan.proofs.plan_tree.Statement.{statement}
 use Rattle.tree_plan.proofs.plan_tree.Tie as tie

@@ -8,7 +8,8 @@ use Rattle.plan_model.specs.declared.NodeLine.{NodeLine}
 use Rattle.tree_read_model.specs.Survey.{outcomeIn}
 use Rattle.report_model.specs.TreeText.{treeText}
 use Rattle.plan_model.proofs.Answered.{refused-answer, refused-short, planned-answer}
-use Rattle.tree_plan.proofs.Printing.{decided-refused, decided-back, refused-never, refused-within, planned-within}
+use Rattle.line_table_model.proofs.Decided.{refused-never, refused-within, planned-within}
+use Rattle.tree_plan.proofs.Printing.{decided-refused, decided-back}
 use borrow.Author.Needs.{needs}
 use Rattle.tree_plan.proofs.plan_within.Statement.{statement}
 use Rattle.tree_plan.proofs.plan_within.Tie as tie
@@ -34,7 +35,7 @@ returns c =
     let d = c .before .before .before .before .before .before .decide in
     let o = decided-refused (outcomeIn (x .input .now) (x .b) (x .sink)) (d .result) (d .ensures .0) _ (c .before .before .verdict .given .1) in
     let r = c .refused-plan .ensures in
-    (r ∙ refused-answer treeText _ _ o, (refused-short 48576 _ _ r, (refused-within _ _ (x .out .now) (leb (c .refused-plan .result .length) (length (x .out .now))) o, λ k. refused-never _ _ r k)))
+    (r ∙ refused-answer treeText _ _ o, (refused-short 48576 _ _ r, (refused-within treeText _ _ (x .out .now) (leb (c .refused-plan .result .length) (length (x .out .now))) o, λ k. refused-never _ _ r k)))
 
 enum-told : tie.Need-enum-told
 enum-told c = search needs
@@ -55,7 +56,7 @@ returns-2 c =
     let k = c .before .before .before .before .before .before .enum-told .given .1 in
     let g = decided-back (outcomeIn (x .input .now) (x .b) (x .sink)) (d .result) (d .ensures .0) _ _ k (d .ensures .1 .0) (omega arith) (d .ensures .1 .1 .0) in
     let w = c .before .before .print-within .ensures in
-    (planned-answer treeText _ (g .lines) _ (g .planned) refl (w .0 ∙ ap (λ (l : List NodeLine). length (treeText l)) (g .back)), (w .1 .0, (w .1 .1 ∙ planned-within _ (g .lines) _ (x .out .now) _ _ (g .planned) (g .back) refl, λ _. d .ensures .1 .1 .1 .1 k)))
+    (planned-answer treeText _ (g .lines) _ (g .planned) refl (w .0 ∙ ap (λ (l : List NodeLine). length (treeText l)) (g .back)), (w .1 .0, (w .1 .1 ∙ planned-within treeText _ (g .lines) _ (x .out .now) _ _ (g .planned) (g .back) refl, λ _. d .ensures .1 .1 .1 .1 k)))
 
 pub plan-within-spec : {M : Type 1} → statement M
 plan-within-spec =

@@ -4,7 +4,7 @@ use Prim.Native.Nat.{min}
 use native.Mathlib.Omega.{arith}
 use Rattle.report_model.specs.TreeText.{treeText}
 use Rattle.node_table_model.specs.NodeRows.{nodesIn}
-use Rattle.tree_plan.proofs.Printing.{whole-put, none-put}
+use Rattle.line_table_model.proofs.Decided.{whole-put, none-put}
 use borrow.Author.Needs.{needs}
 use Rattle.tree_plan.proofs.print_within.Statement.{statement}
 use Rattle.tree_plan.proofs.print_within.Tie as tie

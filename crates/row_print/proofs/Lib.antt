@@ -1,0 +1,3 @@
+-- Laws behind the functions. Assumes nothing.
+-- the text of a table's lines, one behind another
+pub mod Paging
