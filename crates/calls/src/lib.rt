@@ -7,14 +7,14 @@ ghost use Prim.Native.Nat.{_≤_};
 ghost use lib.ListN.{length};
 ghost use lib.Seq.{sets};
 ghost use Rattle.reason_model.specs.Reading.{readReason};
-ghost use Rattle.calls_model.specs.Calls.{toldRefusal, left};
+ghost use Rattle.calls_model.specs.Calls.{answerToRefusal, left};
 ghost use Rattle.calls_model.specs.Reasons.{lineLeft, plain, lineAmong, explainRefusal, numbered};
 ghost use Rattle.calls_model.specs.Inner.{answerOf};
 ghost use Rattle.calls_model.specs.Exchanges.{exchangeAsked};
 use calls_model::Answer;
 use calls_model::Numbered;
 use plan_model::Plan;
-use reason_model::Reading;
+use reason_model::ReasonRead;
 use reason_print::put_reason;
 use refusals::Refusal;
 use refusals::Verdict;
@@ -36,7 +36,7 @@ pub fn answer_of(plan: Plan) -> Answer
 
 // The answer to a refusal.
 pub fn refused(refusal: Refusal) -> Answer
-    ensures { λ r. ⌜ r ≡ toldRefusal refusal ⌝ }
+    ensures { λ r. ⌜ r ≡ answerToRefusal refusal ⌝ }
 {
     Answer {
         number: refusal.number(),
@@ -96,8 +96,8 @@ pub fn read_reason(line: &[u8]) -> Numbered
 {
     let reading = reason_read::read_reason(line);
     match reading {
-        Reading::Reason { number, place } => Numbered { number, place },
-        Reading::NoReason => Numbered {
+        ReasonRead::Reason { number, place } => Numbered { number, place },
+        ReasonRead::NoReason => Numbered {
             number: 0,
             place: 0,
         },

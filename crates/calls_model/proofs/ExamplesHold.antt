@@ -6,19 +6,19 @@ use lib.ListN.{take}
 use Rattle.decimal_model.specs.Ascii.{ascii}
 use Rattle.refusals.specs.Refusals.{numberOf, placeOf}
 use Rattle.refusals.specs.Conditions.{firstBroken}
-use Rattle.reason_model.specs.declared.Reading.the-variants.{Reason}
+use Rattle.reason_model.specs.declared.ReasonRead.the-variants.{Reason}
 use Rattle.reason_model.specs.Reading.{readReason}
 use Rattle.reason_model.proofs.Computing.{worded, taken-in}
-use Rattle.calls_model.specs.Calls.{toldRefusal, told, filled, room, roomed, leaves}
+use Rattle.calls_model.specs.Calls.{answerToRefusal, answerTo, bufferAfter, room, outcomeWithin, leaves}
 use Rattle.calls_model.specs.Reasons.{lineLeft, plain, lineAmong, explainRefusal, numbered}
 use Rattle.calls_model.specs.Examples.{lent, planned, refused, Examples, line, Spoken, OtherPlaceBreaks}
 
 pub examples-hold : Examples
-unfolding ascii numberOf placeOf firstBroken toldRefusal told filled room roomed leaves lent planned refused
+unfolding ascii numberOf placeOf firstBroken answerToRefusal answerTo bufferAfter room outcomeWithin leaves lent planned refused
 examples-hold = record { exact = refl; more = refl; oneLess = refl; none = refl; oneBeforeEight = refl }
 
 pub spoken-hold : Spoken
-unfolding worded taken-in toldRefusal lineLeft plain lineAmong explainRefusal numbered lent line
+unfolding worded taken-in answerToRefusal lineLeft plain lineAmong explainRefusal numbered lent line
 spoken-hold = record {
   exact = refl;
   oneLess = refl;

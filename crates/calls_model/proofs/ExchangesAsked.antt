@@ -7,7 +7,7 @@ use lib.Dec.{eqb}
 use borrow.Author.Tests.{le-leb, lt-leb}
 use Rattle.measure.specs.declared.Symbols.{Symbols}
 use Rattle.superframe_model.specs.Exchange.{exchange, exchangeFor}
-use Rattle.superframe_model.specs.ExchangeTable.{entryFor, placeOf}
+use Rattle.superframe_model.specs.ExchangeTable.{entryFor, entryIndex}
 use Rattle.superframe_model.proofs.ExchangeLaws.{exchange-for-octets, exchange-most}
 use Rattle.superframe_model.proofs.TableLaws.{table-rule}
 use Rattle.calls_model.specs.Exchanges.{exchangeAsked}
@@ -40,8 +40,8 @@ module _ (m ack : ℕ) where
         omega (arith, z, exchange-most m (eqb ack 1) high)
 
 -- the place of m octets counts ACK itself
-place-is : (m ack : ℕ) → ack ≤ 1 → placeOf m (eqb ack 1) ≡ 2 * (m - 6) + ack
-unfolding placeOf
+place-is : (m ack : ℕ) → ack ≤ 1 → entryIndex m (eqb ack 1) ≡ 2 * (m - 6) + ack
+unfolding entryIndex
 place-is m ack h = elim (decLe ack 0) [
   | yes l ↦ let z : ack ≡ 0 = omega arith in rw z refl
   | no f ↦ let z : ack ≡ 1 = omega arith in rw z refl

@@ -9,28 +9,28 @@ use Rattle.refusals.specs.declared.Refusal.{Refusal}
 use Rattle.refusals.specs.Conditions.{Condition, firstBroken, Unbroken}
 use Rattle.refusals.specs.Outcome.{Outcome, Planned, Refused}
 use Rattle.refusals.proofs.Numbers.{numbered}
-use Rattle.calls_model.specs.Calls.{toldRefusal, told, filled, roomed, leaves, IsPlanned, StandsIn}
+use Rattle.calls_model.specs.Calls.{answerToRefusal, answerTo, bufferAfter, outcomeWithin, leaves, IsPlanned, StandsIn}
 use Rattle.calls_model.specs.Laws.{LengthStays, RefusalLeaves, AskedFirst, TextStands}
 use Rattle.calls_model.proofs.Rooms.{roomed-refused, roomed-planned, roomed-unbroken, roomed-own, roomed-fits}
 
 pub asked-first : AskedFirst
-unfolding leaves told
+unfolding leaves answerTo
 asked-first P text p cs before h = by (firstBroken Refused (Planned p) cs) refl h where
-  by : (o : Outcome P) → firstBroken Refused (Planned p) cs ≡ o → told text o .length ≤ length before → told text (roomed text p cs before) ≡ told text o
-  by (Planned q) e g = ap (told text) (roomed-planned text p cs q e before g)
-  by (Refused r) e g = ap (told text) (roomed-refused text p cs before r e)
+  by : (o : Outcome P) → firstBroken Refused (Planned p) cs ≡ o → answerTo text o .length ≤ length before → answerTo text (outcomeWithin text p cs before) ≡ answerTo text o
+  by (Planned q) e g = ap (answerTo text) (roomed-planned text p cs q e before g)
+  by (Refused r) e g = ap (answerTo text) (roomed-refused text p cs before r e)
 
 pub refusal-leaves : RefusalLeaves
-unfolding leaves told filled
-refusal-leaves P text p cs before h = by (roomed text p cs before) h where
-  by : (o : Outcome P) → ¬ IsPlanned (told text o) → filled text before o ≡ before
+unfolding leaves answerTo bufferAfter
+refusal-leaves P text p cs before h = by (outcomeWithin text p cs before) h where
+  by : (o : Outcome P) → ¬ IsPlanned (answerTo text o) → bufferAfter text before o ≡ before
   by (Planned q) g = absurd (g refl)
   by (Refused r) g = refl
 
 pub length-stays : LengthStays
-unfolding leaves filled
-length-stays P text p cs before = by (roomed text p cs before) refl where
-  by : (o : Outcome P) → roomed text p cs before ≡ o → length (filled text before o) ≡ length before
+unfolding leaves bufferAfter
+length-stays P text p cs before = by (outcomeWithin text p cs before) refl where
+  by : (o : Outcome P) → outcomeWithin text p cs before ≡ o → length (bufferAfter text before o) ≡ length before
   by (Planned q) e = length-append (text q) (drop (length (text q)) before) ∙ rw length-drop (omega (arith, roomed-fits text p cs before q e))
   by (Refused r) e = refl
 
@@ -38,15 +38,15 @@ length-stays P text p cs before = by (roomed text p cs before) refl where
 pub standing : {P : Type 0} (text : P → List ℕ) (p : P) (cs : List (Condition Refusal)) (before : List ℕ) → ((x y : P) → text x ≡ text y → x ≡ y)
     → IsPlanned (leaves text p cs before .answer) → (q : P) → StandsIn text q (leaves text p cs before .answer) (leaves text p cs before .buffer)
     → Unbroken cs × (p ≡ q)
-unfolding leaves toldRefusal told filled
-standing {P} text p cs before one n q w = by (roomed text p cs before) refl n w where
-  by : (o : Outcome P) → roomed text p cs before ≡ o → IsPlanned (told text o) → StandsIn text q (told text o) (filled text before o) → Unbroken cs × (p ≡ q)
+unfolding leaves answerToRefusal answerTo bufferAfter
+standing {P} text p cs before one n q w = by (outcomeWithin text p cs before) refl n w where
+  by : (o : Outcome P) → outcomeWithin text p cs before ≡ o → IsPlanned (answerTo text o) → StandsIn text q (answerTo text o) (bufferAfter text before o) → Unbroken cs × (p ≡ q)
   by (Planned x) e n w = (roomed-unbroken text p cs before x e, roomed-own text p cs before x e ∙ sym (one q x (w ∙ take-append-seam (text x) _)))
   by (Refused r) e n w = absurd (omega (arith, n, numbered r))
 
 pub text-stands : TextStands
-unfolding leaves toldRefusal told filled
-text-stands P text p cs before = by (roomed text p cs before) refl where
-  by : (o : Outcome P) → roomed text p cs before ≡ o → IsPlanned (told text o) → StandsIn text p (told text o) (filled text before o)
+unfolding leaves answerToRefusal answerTo bufferAfter
+text-stands P text p cs before = by (outcomeWithin text p cs before) refl where
+  by : (o : Outcome P) → outcomeWithin text p cs before ≡ o → IsPlanned (answerTo text o) → StandsIn text p (answerTo text o) (bufferAfter text before o)
   by (Planned q) e n = rw (roomed-own text p cs before q e) (sym (take-append-seam (text q) _))
   by (Refused r) e n = absurd (omega (arith, n, numbered r))

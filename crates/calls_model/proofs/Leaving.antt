@@ -14,26 +14,26 @@ use Rattle.plan_model.specs.declared.Plan.{Plan}
 use Rattle.plan_model.specs.Plans.{planned, refused, answer, written}
 use Rattle.plan_model.proofs.Answered.{answered-length}
 use Rattle.calls_model.specs.declared.Answer.{Answer}
-use Rattle.calls_model.specs.Calls.{toldRefusal, told, filled, left, leaves}
+use Rattle.calls_model.specs.Calls.{answerToRefusal, answerTo, bufferAfter, left, leaves}
 use Rattle.calls_model.specs.Inner.{answerBy, answerOf}
 use Rattle.calls_model.proofs.Rooms.{roomed-refused, roomed-planned, roomed-short}
 
 module _ {P : Type 0} (text : P → List ℕ) where
-  -- the answer to an outcome's plan is what is told of it
-  told-of : (o : Outcome P) → answerOf (answer text o) ≡ told text o
-  unfolding answerOf answerBy answer planned refused toldRefusal told
+  -- the answer to an outcome's plan is what is answerTo of it
+  told-of : (o : Outcome P) → answerOf (answer text o) ≡ answerTo text o
+  unfolding answerOf answerBy answer planned refused answerToRefusal answerTo
   told-of (Planned p) = refl
   told-of (Refused r) = refl
 
   -- and as long as what is put
-  told-length : (o : Outcome P) → told text o .length ≡ length (written text o)
-  unfolding toldRefusal told written
+  told-length : (o : Outcome P) → answerTo text o .length ≡ length (written text o)
+  unfolding answerToRefusal answerTo written
   told-length (Planned p) = refl
   told-length (Refused r) = refl
 
   module _ (o : Outcome P) (plan : Plan) (e : plan ≡ answer text o) where
     -- what the plan answers
-    pub plan-told : (a : Answer) → a ≡ answerOf plan → a ≡ told text o
+    pub plan-told : (a : Answer) → a ≡ answerOf plan → a ≡ answerTo text o
     plan-told a q = q ∙ ap answerOf e ∙ told-of o
 
     plan-length : plan .length ≡ length (written text o)
@@ -48,9 +48,9 @@ module _ {P : Type 0} (text : P → List ℕ) where
     all = firstBroken Refused (Planned own) cs
 
     -- what is put stands in front of what was there
-    left-is : (o : Outcome P) → all ≡ o → length (written text o) ≤ length before → (a : Answer) (after : List ℕ) → a ≡ told text o
+    left-is : (o : Outcome P) → all ≡ o → length (written text o) ≤ length before → (a : Answer) (after : List ℕ) → a ≡ answerTo text o
         → after ≡ written text o ++ drop (length (written text o)) before → left a after ≡ leaves text own cs before
-    unfolding leaves filled written
+    unfolding leaves bufferAfter written
     left-is (Planned p) q h a after ea ew = rw (roomed-planned text own cs p q before h, ea, ew) refl
     left-is (Refused r) q h a after ea ew = rw (roomed-refused text own cs before r q, ea, ew) refl
 
@@ -62,13 +62,13 @@ module _ {P : Type 0} (text : P → List ℕ) where
         left-is all refl fits a after (plan-told all plan e a q) (w ∙ sets-front before (written text all) fits)
 
     -- one that is too short
-    short-is : (o : Outcome P) → all ≡ o → length before < length (written text o) → (a : Answer) → a ≡ toldRefusal LentTooShort
+    short-is : (o : Outcome P) → all ≡ o → length before < length (written text o) → (a : Answer) → a ≡ answerToRefusal LentTooShort
         → left a before ≡ leaves text own cs before
-    unfolding leaves told filled written
+    unfolding leaves answerTo bufferAfter written
     short-is (Planned p) q h a ea = rw (roomed-short text own cs p q before h, ea) refl
     short-is (Refused r) q h a ea = absurd (omega arith)
 
-    pub plan-short : (a : Answer) → length before < plan .length → a ≡ toldRefusal LentTooShort → left a before ≡ leaves text own cs before
+    pub plan-short : (a : Answer) → length before < plan .length → a ≡ answerToRefusal LentTooShort → left a before ≡ leaves text own cs before
     plan-short a h q = short-is all refl (omega (arith, plan-length all plan e)) a q
 
     -- and one that is not, with the text made apart

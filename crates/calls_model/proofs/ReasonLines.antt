@@ -15,18 +15,18 @@ use Rattle.refusals.specs.declared.Refusal.{Refusal}
 use Rattle.refusals.specs.declared.Verdict.{Verdict}
 use Rattle.refusals.specs.declared.Verdict.the-variants.{Broken}
 use Rattle.plan_model.specs.Plans.{planned, refused, answer}
-use Rattle.reason_model.specs.declared.Reading.the-variants.{Reason}
+use Rattle.reason_model.specs.declared.ReasonRead.the-variants.{Reason}
 use Rattle.reason_model.specs.Reasons.{reason}
 use Rattle.reason_model.specs.Reading.{readReason}
 use Rattle.reason_model.proofs.LawsHold.{read-back}
 use Rattle.calls_model.specs.declared.Answer.{Answer}
-use Rattle.calls_model.specs.Calls.{toldRefusal, told, Left, left}
+use Rattle.calls_model.specs.Calls.{answerToRefusal, answerTo, Left, left}
 use Rattle.calls_model.specs.Reasons.{lineLeft, plain, lineAmong, ReadAgain}
 
 -- ---- a line that is put, and one that has no room
 
 module _ (number place : ℕ) (line before : List ℕ) where
-  pub line-short : length before < length line → (a : Answer) → a ≡ toldRefusal LentTooShort → left a before ≡ lineLeft number place line before
+  pub line-short : length before < length line → (a : Answer) → a ≡ answerToRefusal LentTooShort → left a before ≡ lineLeft number place line before
   unfolding lineLeft
   line-short h a e = rw (lt-ltb (length before) (length line) h, e) refl
 
@@ -63,15 +63,15 @@ line-of-others number place f g h = rw (ne-eqb number 1 f, ne-eqb number 8 g, ne
 -- `text` is a plan's text, and `say` the line of a verdict, of a broken one the refusal's
 module _ {P : Type 0} (text : P → List ℕ) (say : Verdict → List ℕ) (broken : (r : Refusal) → say (Broken r) ≡ reason r) where
   -- from the line of an outcome that is answered so
-  outcome-again : (o : Outcome P) (number place : ℕ) → number ≡ told text o .number → place ≡ told text o .place → place < 2 ^ 32 → 1 ≤ number
+  outcome-again : (o : Outcome P) (number place : ℕ) → number ≡ answerTo text o .number → place ≡ answerTo text o .place → place < 2 ^ 32 → 1 ≤ number
       → readReason (say (answer text o .verdict)) ≡ Reason number place
-  unfolding toldRefusal told answer planned refused
+  unfolding answerToRefusal answerTo answer planned refused
   outcome-again (Planned p) number place n q h l = absurd (omega arith)
   outcome-again (Refused r) number place n q h l = rw (n, q, broken r) (read-back r (omega arith))
 
   pub line-again : (o : Outcome P) (before : List ℕ) (a : Answer) (after : List ℕ)
-      → left a after ≡ lineLeft (told text o .number) (told text o .place) (say (answer text o .verdict)) before → a .place < 2 ^ 32 → ReadAgain a after
-  unfolding lineLeft toldRefusal numberOf
+      → left a after ≡ lineLeft (answerTo text o .number) (answerTo text o .place) (say (answer text o .verdict)) before → a .place < 2 ^ 32 → ReadAgain a after
+  unfolding lineLeft answerToRefusal numberOf
   line-again o before a after e h low high = by (ltb (length before) (length line)) e
     where
       line : List ℕ
@@ -79,7 +79,7 @@ module _ {P : Type 0} (text : P → List ℕ) (say : Verdict → List ℕ) (brok
 
       by : (b : Bool)
           → left a after
-          ≡ cond b (left (toldRefusal LentTooShort) before) (left (record { number = told text o .number; place = told text o .place; length = length line }) (line ++ drop (length line) before))
+          ≡ cond b (left (answerToRefusal LentTooShort) before) (left (record { number = answerTo text o .number; place = answerTo text o .place; length = length line }) (line ++ drop (length line) before))
           → readReason (take (a .length) after) ≡ Reason (a .number) (a .place)
       by true q = absurd (high (ap (λ (l : Left). l .answer .number) q))
       by false q =

@@ -1,4 +1,4 @@
--- What an outcome is told as, whatever its plan is put as, and what a plan that is put whole or not at all leaves. Assumes nothing.
+-- What an outcome is answerTo as, whatever its plan is put as, and what a plan that is put whole or not at all leaves. Assumes nothing.
 use mathlib.Core.Path.{_≡_, refl, _∙_}
 use mathlib.Core.Bool.{cond}
 use mathlib.Core.List.{List}
@@ -8,16 +8,16 @@ use lib.ListN.{length}
 use borrow.Author.Tests.{le-leb, lt-leb}
 use Rattle.refusals.specs.Outcome.{Outcome, Planned, Refused}
 use Rattle.plan_model.specs.Plans.{answer, planned, refused}
-use Rattle.calls_model.specs.Calls.{told}
+use Rattle.calls_model.specs.Calls.{answerTo}
 
 module _ {P : Type 0} (f g : P → List ℕ) where
-  pub number-same : (o : Outcome P) → told f o .number ≡ told g o .number
-  unfolding told
+  pub number-same : (o : Outcome P) → answerTo f o .number ≡ answerTo g o .number
+  unfolding answerTo
   number-same (Planned p) = refl
   number-same (Refused r) = refl
 
-  pub place-same : (o : Outcome P) → told f o .place ≡ told g o .place
-  unfolding told
+  pub place-same : (o : Outcome P) → answerTo f o .place ≡ answerTo g o .place
+  unfolding answerTo
   place-same (Planned p) = refl
   place-same (Refused r) = refl
 

@@ -9,7 +9,7 @@ use Rattle.refusals.specs.Conditions.{Condition, firstBroken}
 use Rattle.refusals.specs.Outcome.{Planned, Refused}
 use Rattle.superframe_model.specs.ExchangeTable.{entryFor}
 use Rattle.calls_model.specs.Exchanges.{exchangeAsked}
-use Rattle.calls_model.specs.Calls.{told, leaves, IsPlanned, StandsIn}
+use Rattle.calls_model.specs.Calls.{answerTo, leaves, IsPlanned, StandsIn}
 
 -- a buffer keeps its length
 abbrev pub LengthStays : Type 1
@@ -23,8 +23,8 @@ RefusalLeaves = (P : Type 0) (text : P → List ℕ) (p : P) (cs : List (Conditi
 -- a buffer as long as the entry that writes nothing says is long enough: the answers are the same
 abbrev pub AskedFirst : Type 1
 AskedFirst = (P : Type 0) (text : P → List ℕ) (p : P) (cs : List (Condition Refusal)) (before : List ℕ)
-    → told text (firstBroken Refused (Planned p) cs) .length ≤ length before
-    → leaves text p cs before .answer ≡ told text (firstBroken Refused (Planned p) cs)
+    → answerTo text (firstBroken Refused (Planned p) cs) .length ≤ length before
+    → leaves text p cs before .answer ≡ answerTo text (firstBroken Refused (Planned p) cs)
 
 -- where it is planned, the plan's own text stands in the buffer: the promise is about something
 abbrev pub TextStands : Type 1

@@ -8,20 +8,20 @@ use lib.ListN.{length, take, drop}
 use Rattle.refusals.specs.declared.Refusal.{Refusal}
 use Rattle.refusals.specs.declared.Refusal.the-variants.{Names, LentTooShort, InputTooLong}
 use Rattle.refusals.specs.Refusals.{numberOf, placeOf}
-use Rattle.reason_model.specs.declared.Reading.{Reading}
-use Rattle.reason_model.specs.declared.Reading.the-variants.{Reason, NoReason}
+use Rattle.reason_model.specs.declared.ReasonRead.{ReasonRead}
+use Rattle.reason_model.specs.declared.ReasonRead.the-variants.{Reason, NoReason}
 use Rattle.reason_model.specs.Reasons.{reason}
 use Rattle.reason_model.specs.Reading.{readReason}
 use Rattle.calls_model.specs.declared.Answer.{Answer}
 use Rattle.calls_model.specs.declared.Numbered.{Numbered}
-use Rattle.calls_model.specs.Calls.{toldRefusal, Left, left}
+use Rattle.calls_model.specs.Calls.{answerToRefusal, Left, left}
 
 -- what a call leaves that puts a line, and answers this number and place: the line at the front of the buffer and its length, or number 8
 -- and every byte as it was, where the buffer is shorter than the line
 unfoldable pub lineLeft : ℕ → ℕ → List ℕ → List ℕ → Left
 lineLeft number place line before =
     cond (ltb (length before) (length line))
-    (left (toldRefusal LentTooShort) before)
+    (left (answerToRefusal LentTooShort) before)
     (left (record { number = number; place = place; length = length line }) (line ++ drop (length line) before))
 
 -- refusals that their number and place alone determine
@@ -38,7 +38,7 @@ unfoldable pub explainRefusal : ℕ → ℕ → List ℕ → Left
 explainRefusal number place before = lineLeft 0 0 (lineAmong plain number place) before
 
 -- the entry that reads a line: number and place of the refusal whose line it is, 0 and 0 where it is none
-unfoldable pub numbered : Reading → Numbered
+unfoldable pub numbered : ReasonRead → Numbered
 numbered (Reason n p) = record { number = n; place = p }
 numbered NoReason = record { number = 0; place = 0 }
 

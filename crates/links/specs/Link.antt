@@ -18,6 +18,10 @@ use Rattle.links.specs.declared.Figures.{Figures}
 abbrev pub load : ℕ → ℕ → Load
 load ρ β = record { rate = perInterval ρ; burst = frameSymbols β }
 
+-- no load
+abbrev pub noLoad : Load
+noLoad = load 0 0
+
 -- two loads together
 abbrev pub plus : Load → Load → Load
 plus a b = load (a .rate .0 + b .rate .0) (a .burst .0 + b .burst .0)

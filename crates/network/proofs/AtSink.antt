@@ -11,8 +11,8 @@ use Rattle.network.specs.Counting.{bit, count}
 use Rattle.network.specs.Model.{Network, Frame}
 use Rattle.network.specs.Readings.{Reading}
 use Rattle.network.specs.Oracle.{run}
-use Rattle.network.specs.Loads.{Figures, Provisioned, Buckets}
-use Rattle.network.specs.Claim.{within}
+use Rattle.network.specs.Loads.{Flows, Provisioned, Buckets}
+use Rattle.network.specs.Claim.{cameIn}
 use Rattle.network.proofs.Serving.{cameBefore}
 use Rattle.network.proofs.Accounting.{came, come-total, received-all}
 use Rattle.network.proofs.Bounds.{held}
@@ -24,23 +24,23 @@ cut-by : (u x t : ℕ) → min u (x + t) - min u x ≤ t
 cut-by u x t = omega arith
 
 -- those of a stretch, and those before it
-count-within : (x t : ℕ) (q : List Frame) → count (within x t) q + count (cameBefore x) q ≡ count (cameBefore (x + t)) q
-unfolding count within cameBefore bit
+count-within : (x t : ℕ) (q : List Frame) → count (cameIn x t) q + count (cameBefore x) q ≡ count (cameBefore (x + t)) q
+unfolding count cameIn cameBefore bit
 count-within x t [] = refl
 count-within x t (f ∷ q) = by (leb x (f .came)) refl (count-within x t q)
   where
-    by : (b : Bool) → leb x (f .came) ≡ b → count (within x t) q + count (cameBefore x) q ≡ count (cameBefore (x + t)) q
-        → bit (b && ltb (f .came) (x + t)) + count (within x t) q + (bit (ltb (f .came) x) + count (cameBefore x) q) ≡ bit (ltb (f .came) (x + t)) + count (cameBefore (x + t)) q
+    by : (b : Bool) → leb x (f .came) ≡ b → count (cameIn x t) q + count (cameBefore x) q ≡ count (cameBefore (x + t)) q
+        → bit (b && ltb (f .came) (x + t)) + count (cameIn x t) q + (bit (ltb (f .came) x) + count (cameBefore x) q) ≡ bit (ltb (f .came) (x + t)) + count (cameBefore (x + t)) q
     by true e h = rw (le-ltb (f .came) x (omega (arith, leb-true x (f .came) e))) (omega arith)
     by false e h =
         let lt : f .came < x = leb-false x (f .came) e in
         rw (lt-ltb (f .came) x lt, lt-ltb (f .came) (x + t) (omega arith)) (omega arith)
 
-module _ (N : Network) (F : Figures) (P : Provisioned N F) (l : List Reading) (Q : Buckets N F l) (pick : ℕ → ℕ → ℕ) where
-  pub sink-load : (x t u : ℕ) → count (within x t) (run N l pick u .received) * N .interval ≤ F .burst (N .sink) + F .rate (N .sink) * t
+module _ (N : Network) (F : Flows) (P : Provisioned N F) (l : List Reading) (Q : Buckets N F l) (pick : ℕ → ℕ → ℕ) where
+  pub sink-load : (x t u : ℕ) → count (cameIn x t) (run N l pick u .received) * N .interval ≤ F .burst (N .sink) + F .rate (N .sink) * t
   sink-load x t u =
       let q : List Frame = run N l pick u .received in
-      let e : count (within x t) q + came N l pick (N .sink) (min u x) ≡ came N l pick (N .sink) (min u (x + t)) = omega (
+      let e : count (cameIn x t) q + came N l pick (N .sink) (min u x) ≡ came N l pick (N .sink) (min u (x + t)) = omega (
         arith,
         count-within x t q,
         received-all N l pick (cameBefore x) u,

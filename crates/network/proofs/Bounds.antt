@@ -13,7 +13,7 @@ use Rattle.network.specs.Counting.{total, bit}
 use Rattle.network.specs.Model.{Network}
 use Rattle.network.specs.Readings.{Reading, made}
 use Rattle.network.specs.Run.{feeds}
-use Rattle.network.specs.Loads.{Figures, burstAfter, Linked, Provisioned, Buckets}
+use Rattle.network.specs.Loads.{Flows, burstAfter, Linked, Provisioned, Buckets}
 use Rattle.network.proofs.Sums.{total-add, total-mul, total-mono, total-le, total-shift}
 use Rattle.network.proofs.Serving.{cameBefore}
 use Rattle.network.proofs.Pace.{starts, pace}
@@ -51,7 +51,7 @@ feeds-true N w v = by (eqb w (N .sink)) refl
     by true e h = absurd (false≢true h)
     by false e h = (eqb-false w (N .sink) e, eqb-true (N .next w) v h)
 
-module _ (N : Network) (F : Figures) (P : Provisioned N F) (l : List Reading) (Q : Buckets N F l) (pick : ℕ → ℕ → ℕ) where
+module _ (N : Network) (F : Flows) (P : Provisioned N F) (l : List Reading) (Q : Buckets N F l) (pick : ℕ → ℕ → ℕ) where
   -- the starts of node v's link before symbol u
   abbrev S : ℕ → ℕ → ℕ
   S v u = total (starts N v) u

@@ -9,16 +9,16 @@ use native.Mathlib.Omega.{arith}
 use lib.Dec.{eqb, ltb}
 use lib.Arith.{digits-mod}
 use borrow.Author.Tests.{ltb-true, ltb-false, eqb-true, eqb-false, lt-ltb, le-ltb, ne-eqb}
-use Rattle.network.specs.Counting.{total, bit, below}
+use Rattle.network.specs.Counting.{total, bit, someBelow}
 use Rattle.network.specs.Model.{Network}
 use Rattle.network.specs.Oracle.{isStart}
-use Rattle.network.specs.Loads.{Figures, Linked, Provisioned}
+use Rattle.network.specs.Loads.{Flows, Linked, Provisioned}
 use Rattle.network.proofs.Sums.{total-ap, total-shift, total-zero}
 use Rattle.network.proofs.StartTest.{below-ap, later-mod}
 
 -- A window at offset a of every interval, m exchanges of X symbols. Does one of them start in symbol i of the interval?
 hit : ℕ → ℕ → ℕ → ℕ → Bool
-hit a X m i = below m (λ j. eqb i (a + j * X))
+hit a X m i = someBelow m (λ j. eqb i (a + j * X))
 
 -- how many start among the first p symbols of the interval
 early : ℕ → ℕ → ℕ → ℕ → ℕ
@@ -37,13 +37,13 @@ module _ (a X : ℕ) (pos : 0 < X) where
 
   -- no two start in one symbol
   miss : (m c : ℕ) → m ≤ c → hit a X m (a + c * X) ≡ false
-  unfolding hit below
+  unfolding hit someBelow
   miss zero c h = refl
   miss (suc m) c h = rw (ne-eqb (a + c * X) (a + m * X) (λ e. omega (arith, mul-le-mul-right X h, e))) (miss m c (omega arith))
 
   -- one more exchange, and the number of starts among the first p symbols
   more : (m p : ℕ) → total (λ i. bit (hit a X (suc m) i)) p ≡ total (λ i. bit (hit a X m i)) p + bit (ltb (a + m * X) p)
-  unfolding total bit hit below
+  unfolding total bit hit someBelow
   more m zero = rw (le-ltb (a + m * X) 0 (omega arith))
   more m (suc p) = by (eqb p (a + m * X)) refl (more m p)
     where
@@ -67,7 +67,7 @@ module _ (a X : ℕ) (pos : 0 < X) where
               rw (le-ltb (a + m * X) (suc p) (omega (arith, ne))) (omega arith)
 
   spot : (m p : ℕ) → Spot m p (total (λ i. bit (hit a X m i)) p)
-  unfolding hit below bit
+  unfolding hit someBelow bit
   spot zero p = rw (total-zero p) (record { few = le-refl 0; next = λ h. absurd (omega arith); last = λ h. absurd (omega arith) })
   spot (suc m) p = rw (more m p) (by (ltb (a + m * X) p) refl (spot m p))
     where
@@ -164,7 +164,7 @@ unfoldable pub starts : Network → ℕ → ℕ → ℕ
 starts N v t = bit (isStart N v t)
 
 -- From symbol s to symbol z the link has at least m × (z + 1 + X − s − T) / BI starts.
-pub pace : (N : Network) (F : Figures) → Provisioned N F → (v s z : ℕ) → Linked N v
+pub pace : (N : Network) (F : Flows) → Provisioned N F → (v s z : ℕ) → Linked N v
     → N .holds v * (z + 1 + N .exchange) + total (starts N v) s * N .interval ≤ N .holds v * s + N .holds v * F .latency v + total (starts N v) z * N .interval
 unfolding starts isStart each hit
 pace N F P v s z L = rw (same s, same z) (even a X (P .exchangePositive) m B fits (P .intervalPositive) (F .latency v) s z (omega (arith, P .latencyIs v L)))

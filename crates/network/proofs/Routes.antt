@@ -11,7 +11,7 @@ use Rattle.network.specs.Model.{Network, Frame, Exchange}
 use Rattle.network.specs.Readings.{Reading, made}
 use Rattle.network.specs.Run.{feeds, ends, arrived, arrivals, fresh}
 use Rattle.network.specs.Oracle.{begun, isStart, run}
-use Rattle.network.specs.Loads.{Figures, Linked, Provisioned, Buckets}
+use Rattle.network.specs.Loads.{Flows, Linked, Provisioned, Buckets}
 use Rattle.network.proofs.Lists.{All-append, All-imp, All-both, All-map, All-join, All-keep, All-replicate, All-counted}
 use Rattle.network.proofs.Serving.{cameBefore, serve-all}
 use Rattle.network.proofs.Steps.{comes, turn, next-waiting, next-air, next-received, sink-waiting, sink-air, orderly}
@@ -19,10 +19,10 @@ use Rattle.network.proofs.Accounting.{waits, onAir}
 use Rattle.network.proofs.Bounds.{feeds-true, soon}
 
 -- the frame f came to node v so early that the rest of its route fits into its route's delay
-pub record Timely (F : Figures) (v : ℕ) (f : Frame) : Type 0 where
+pub record Timely (F : Flows) (v : ℕ) (f : Frame) : Type 0 where
   pub time : f .came + F .route v ≤ f .made + F .route (f .sensor)
 
-module _ (N : Network) (F : Figures) (P : Provisioned N F) (l : List Reading) (Q : Buckets N F l) (pick : ℕ → ℕ → ℕ) where
+module _ (N : Network) (F : Flows) (P : Provisioned N F) (l : List Reading) (Q : Buckets N F l) (pick : ℕ → ℕ → ℕ) where
   pub waiting-soon : (v u : ℕ) → Linked N v → All (λ f. u ≤ f .came + F .delay v) (run N l pick u .waiting v)
   unfolding waits onAir cameBefore
   waiting-soon v u L = All-imp (λ f h. let d = soon N F P l Q pick v (suc (f .came)) u L (h .1) (omega (arith, h .0)) in omega arith)

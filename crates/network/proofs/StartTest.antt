@@ -8,38 +8,38 @@ use native.Mathlib.Omega.{arith}
 use lib.Dec.{eqb, leb}
 use lib.Arith.{digits-mod}
 use borrow.Author.Tests.{not-true, eqb-true, eqb-false, eq-eqb, ne-eqb, leb-true, le-leb}
-use Rattle.network.specs.Counting.{below}
+use Rattle.network.specs.Counting.{someBelow}
 use Rattle.network.specs.Model.{Network}
 use Rattle.network.specs.Run.{Start}
 use Rattle.network.specs.Oracle.{isStart}
 
--- ---- some number below n
+-- ---- some number someBelow n
 
 record Found (n : ℕ) (p : ℕ → Bool) : Type 0 where
   which : ℕ
   less : which < n
   passes : p which ≡ true
 
-found : (n : ℕ) (p : ℕ → Bool) → below n p ≡ true → Found n p
-unfolding below
+found : (n : ℕ) (p : ℕ → Bool) → someBelow n p ≡ true → Found n p
+unfolding someBelow
 found zero p h = absurd (false≢true h)
 found (suc n) p h = by (p n) refl h (found n p)
   where
-    by : (b : Bool) → p n ≡ b → b || below n p ≡ true → (below n p ≡ true → Found n p) → Found (suc n) p
+    by : (b : Bool) → p n ≡ b → b || someBelow n p ≡ true → (someBelow n p ≡ true → Found n p) → Found (suc n) p
     by true e h go = record { which = n; less = le-refl (suc n); passes = e }
     by false e h go = let f : Found n p = go h in record { which = f .which; less = omega (arith, f .less); passes = f .passes }
 
-finds : (n : ℕ) (p : ℕ → Bool) (j : ℕ) → j < n → p j ≡ true → below n p ≡ true
-unfolding below
+finds : (n : ℕ) (p : ℕ → Bool) (j : ℕ) → j < n → p j ≡ true → someBelow n p ≡ true
+unfolding someBelow
 finds zero p j h e = absurd (omega arith)
 finds (suc n) p j h e = by (ℕ-discrete j n) (λ k. finds n p j k e)
   where
-    by : Dec (j ≡ n) → (j < n → below n p ≡ true) → p n || below n p ≡ true
+    by : Dec (j ≡ n) → (j < n → someBelow n p ≡ true) → p n || someBelow n p ≡ true
     by (yes d) go = rw (subst (λ (i : ℕ). p i ≡ true) d e)
     by (no d) go = rw (go (omega (arith, d))) (or-true (p n))
 
-pub below-ap : (n : ℕ) (p q : ℕ → Bool) → ((j : ℕ) → j < n → p j ≡ q j) → below n p ≡ below n q
-unfolding below
+pub below-ap : (n : ℕ) (p q : ℕ → Bool) → ((j : ℕ) → j < n → p j ≡ q j) → someBelow n p ≡ someBelow n q
+unfolding someBelow
 below-ap zero p q h = refl
 below-ap (suc n) p q h = ap₂ _||_ (h n (le-refl (suc n))) (below-ap n p q (λ j k. h j (omega arith)))
 

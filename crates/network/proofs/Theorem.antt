@@ -10,8 +10,8 @@ use Rattle.network.specs.Counting.{count, All, none}
 use Rattle.network.specs.Model.{Network, Frame, Exchange, State, queue}
 use Rattle.network.specs.Readings.{Reading}
 use Rattle.network.specs.Oracle.{run, Agree, Chosen}
-use Rattle.network.specs.Loads.{Figures, burstAfter, Linked, Provisioned, Buckets}
-use Rattle.network.specs.Claim.{within, tagged, present, Kept, EveryRunIsKept}
+use Rattle.network.specs.Loads.{Flows, burstAfter, Linked, Provisioned, Buckets}
+use Rattle.network.specs.Claim.{cameIn, tagged, present, WithinBounds, EveryRunIsKept}
 use Rattle.network.proofs.Sums.{total-ap}
 use Rattle.network.proofs.Lists.{count-all, All-append, All-imp, All-both, All-map}
 use Rattle.network.proofs.Serving.{cameBefore}
@@ -23,7 +23,7 @@ use Rattle.network.proofs.AtSink.{sink-load}
 use Rattle.network.proofs.NoLoss.{none-lost}
 use Rattle.network.proofs.Oracles.{every-run-is-chosen}
 
-module _ (N : Network) (F : Figures) (P : Provisioned N F) (l : List Reading) (Q : Buckets N F l) (pick : ℕ → ℕ → ℕ) where
+module _ (N : Network) (F : Flows) (P : Provisioned N F) (l : List Reading) (Q : Buckets N F l) (pick : ℕ → ℕ → ℕ) where
   -- all frames in a queue, by their number
   queue-length : (v u : ℕ) → Linked N v → length (queue (run N l pick u) v) ≡ waits N l pick (cameBefore u) v u + onAir N l pick (cameBefore u) v u
   unfolding queue waits onAir cameBefore
@@ -55,7 +55,7 @@ module _ (N : Network) (F : Figures) (P : Provisioned N F) (l : List Reading) (Q
           (All-imp (λ f h. omega (arith, h .0 .time, h .1, P .routeCovers v L)) (All-both (I .waiting) (waiting-soon N F P l Q pick v (suc u) L)))
           (All-map (λ e. e .frame) (All-imp (λ e h. omega (arith, h .0 .time, h .1, P .routeCovers v L)) (All-both (I .air) (air-soon N F P l Q pick v (suc u) L))))
 
-  pub kept : (u : ℕ) → Kept N F l u (run N l pick (suc u))
+  pub kept : (u : ℕ) → WithinBounds N F l u (run N l pick (suc u))
   unfolding burstAfter
   kept u = record {
     queues = λ v L. omega (arith, queued N F P l Q pick v (suc u) L, ap (λ (k : ℕ). k * N .interval) (queue-length v (suc u) L));
@@ -72,14 +72,14 @@ queue-agree : (N : Network) {s s′ : State} → Agree N s s′ → (v : ℕ) �
 unfolding queue
 queue-agree N A v h = ap₂ (λ (q : List Frame) (x : List Exchange). q ++ map (λ e. e .frame) x) (A .waiting v h) (A .air v h)
 
-kept-agree : (N : Network) (F : Figures) (l : List Reading) (u : ℕ) {s s′ : State} → N .sink < N .nodes → Agree N s s′ → Kept N F l u s′ → Kept N F l u s
+kept-agree : (N : Network) (F : Flows) (l : List Reading) (u : ℕ) {s s′ : State} → N .sink < N .nodes → Agree N s s′ → WithinBounds N F l u s′ → WithinBounds N F l u s
 unfolding present
 kept-agree N F l u {s} {s′} hs A K = record {
   queues = λ v L. omega (arith, K .queues v L, ap (λ (q : List Frame). length q * N .interval) (queue-agree N A v (L .node)));
   sinkQueue = queue-agree N A (N .sink) hs ∙ K .sinkQueue;
   underWay = λ v h. subst (λ (q : List Frame). All (λ f. u ≤ f .made + F .route (f .sensor)) q) (sym (queue-agree N A v h)) (K .underWay v h);
   received = subst (λ (q : List Frame). All (λ f. f .came ≤ f .made + F .route (f .sensor)) q) (sym (A .received)) (K .received);
-  stretches = λ x t. subst (λ (q : List Frame). count (within x t) q * N .interval ≤ F .burst (N .sink) + F .rate (N .sink) * t) (sym (A .received)) (K .stretches x t);
+  stretches = λ x t. subst (λ (q : List Frame). count (cameIn x t) q * N .interval ≤ F .burst (N .sink) + F .rate (N .sink) * t) (sym (A .received)) (K .stretches x t);
   noneLost = λ o c. ap₂ _+_ (total-ap (λ v. count (tagged o c) (queue s v)) (λ v. count (tagged o c) (queue s′ v)) (N .nodes) (λ v h. ap (count (tagged o c)) (queue-agree N A v h)))
       (ap (count (tagged o c)) (A .received)) ∙ K .noneLost o c;
 }

@@ -7,13 +7,13 @@ use native.Mathlib.Decide.{decLe}
 use native.Mathlib.Omega.{arith}
 use lib.Dec.{eqb, ltb, lit<, lit≤}
 use borrow.Author.Tests.{lt-ltb, le-ltb}
-use Rattle.network.specs.Counting.{total, bit, below, keep, join, none, each}
+use Rattle.network.specs.Counting.{total, bit, someBelow, keep, join, none, each}
 use Rattle.network.specs.Model.{Network, queue}
 use Rattle.network.specs.Readings.{made}
 use Rattle.network.specs.Run.{deliver, feeds, ends, arrived, arrivals, endExchanges, fresh, makeReadings}
 use Rattle.network.specs.Oracle.{isStart, idle, behind, takeOldest, serve, begun, serveAll, symbol, run}
-use Rattle.network.specs.Loads.{Figures, burstAfter, Provisioned, Buckets}
-use Rattle.network.specs.Examples.{link, perNode, reading, one, first, written, received}
+use Rattle.network.specs.Loads.{Flows, burstAfter, Provisioned, Buckets}
+use Rattle.network.specs.Examples.{link, perNode, reading, one, first, asNumbers, received}
 use Rattle.network.specs.Witness.{fullFigures, fullReadings, Full, tree, treeFigures, treeReadings, Travelled}
 use Rattle.network.proofs.Sums.{total-ap, total-add, total-zero, total-shift, total-pick}
 use Rattle.network.proofs.Answers.{eqb-sym, bit-le}
@@ -62,7 +62,7 @@ full-provisioned : Provisioned (link 0 1 1) fullFigures
 unfolding link fullFigures perNode burstAfter total bit feeds
 full-provisioned =
     let N : Network = link 0 1 1 in
-    let F : Figures = fullFigures in
+    let F : Flows = fullFigures in
     record {
       intervalPositive = lit< tt;
       exchangePositive = lit< tt;
@@ -122,7 +122,7 @@ full-buckets = record {
     )
 
 pub full : Full
-unfolding link fullFigures fullReadings one reading perNode burstAfter first run symbol serveAll begun serve takeOldest behind idle isStart makeReadings fresh endExchanges arrivals arrived ends feeds deliver made queue keep join below
+unfolding link fullFigures fullReadings one reading perNode burstAfter first run symbol serveAll begun serve takeOldest behind idle isStart makeReadings fresh endExchanges arrivals arrived ends feeds deliver made queue keep join someBelow
 full = record { provisioned = full-provisioned; buckets = full-buckets; reached = refl }
 
 -- ---- the tree
@@ -131,7 +131,7 @@ tree-provisioned : Provisioned tree treeFigures
 unfolding tree treeFigures perNode burstAfter total bit feeds
 tree-provisioned =
     let N : Network = tree in
-    let F : Figures = treeFigures in
+    let F : Flows = treeFigures in
     record {
       intervalPositive = lit< tt;
       exchangePositive = lit< tt;
@@ -170,5 +170,5 @@ tree-buckets = record {
     node v x t h = omega (arith, stretch-le 0 x t, total-ap (λ i. made treeReadings (x + i) v) (λ i. bit (eqb 0 (x + i))) t (λ i k. tree-made (x + i) v h))
 
 pub travelled : Travelled
-unfolding tree perNode treeReadings reading received written first run symbol serveAll begun serve takeOldest behind idle isStart makeReadings fresh endExchanges arrivals arrived ends feeds deliver made keep join below
+unfolding tree perNode treeReadings reading received asNumbers first run symbol serveAll begun serve takeOldest behind idle isStart makeReadings fresh endExchanges arrivals arrived ends feeds deliver made keep join someBelow
 travelled = record { provisioned = tree-provisioned; buckets = tree-buckets; arrived = refl }

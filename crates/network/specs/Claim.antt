@@ -9,11 +9,11 @@ use Rattle.network.specs.Counting.{total, count, All}
 use Rattle.network.specs.Model.{Network, Frame, State, queue}
 use Rattle.network.specs.Readings.{Reading, made}
 use Rattle.network.specs.Run.{endExchanges, makeReadings, Symbol, Run, atEndOf}
-use Rattle.network.specs.Loads.{Figures, burstAfter, Linked, Provisioned, Buckets}
+use Rattle.network.specs.Loads.{Flows, burstAfter, Linked, Provisioned, Buckets}
 
 -- did the frame come in one of the t symbols from x on?
-unfoldable pub within : ℕ → ℕ → Frame → Bool
-within x t f = leb x (f .came) && ltb (f .came) (x + t)
+unfoldable pub cameIn : ℕ → ℕ → Frame → Bool
+cameIn x t f = leb x (f .came) && ltb (f .came) (x + t)
 
 -- was the frame made by sensor o in symbol c?
 unfoldable pub tagged : ℕ → ℕ → Frame → Bool
@@ -24,7 +24,7 @@ unfoldable pub present : Network → State → ℕ → ℕ → ℕ
 present N s o c = total (λ v. count (tagged o c) (queue s v)) (N .nodes) + count (tagged o c) (s .received)
 
 -- Of the state s at the end of symbol u of a run that is fed the readings l:
-pub record Kept (N : Network) (F : Figures) (l : List Reading) (u : ℕ) (s : State) : Type 0 where
+pub record WithinBounds (N : Network) (F : Flows) (l : List Reading) (u : ℕ) (s : State) : Type 0 where
   -- a queue holds at most (β + ρ × T) / BI frames; not rounded, so the buffer is this rounded up
   pub queues : (v : ℕ) → Linked N v → length (queue s v) * N .interval ≤ burstAfter F v
   -- the sink has no queue
@@ -34,18 +34,18 @@ pub record Kept (N : Network) (F : Figures) (l : List Reading) (u : ℕ) (s : St
   -- a frame made in symbol c that came to the sink in symbol d was on its way for d − c symbols, at most its own route's delay
   pub received : All (λ f. f .came ≤ f .made + F .route (f .sensor)) (s .received)
   -- "In any t consecutive symbols the sink may get at most a frames, its own included, with a × BI ≤ BURST + RATE × t": from x on
-  pub stretches : (x t : ℕ) → count (within x t) (s .received) * N .interval ≤ F .burst (N .sink) + F .rate (N .sink) * t
+  pub stretches : (x t : ℕ) → count (cameIn x t) (s .received) * N .interval ≤ F .burst (N .sink) + F .rate (N .sink) * t
   -- No frame is lost, doubled or given another sensor or clock: for every sensor o and every symbol c, as many frames tagged so are in
   -- the queues and at the sink as the readings made there then, and none before they are made.
   pub noneLost : (o c : ℕ) → present N s o c ≡ cond (leb c u) (made l c o) 0
 
--- The theorem, proved in proofs/Theorem: for every network and figures that fulfil the hypotheses, all readings within the token
+-- The theorem, proved in proofs/Theorem: for every network and figures that fulfil the hypotheses, all readings cameIn the token
 -- buckets, every run that they feed, and every last symbol u, everything above at once.
 abbrev pub EveryRunIsKept : Type 0
-EveryRunIsKept = (N : Network) (F : Figures) → Provisioned N F
+EveryRunIsKept = (N : Network) (F : Flows) → Provisioned N F
     → (l : List Reading) → Buckets N F l
     → (s : ℕ → State) → Run N l s
-    → (u : ℕ) → Kept N F l u (atEndOf s u)
+    → (u : ℕ) → WithinBounds N F l u (atEndOf s u)
 
 -- ---- two facts about a symbol that the claim leans on (proofs/Moments)
 

@@ -13,10 +13,10 @@ unfoldable pub bit : Bool → ℕ
 bit true = 1
 bit false = 0
 
--- does some number below n pass the test?
-unfoldable pub below : ℕ → (ℕ → Bool) → Bool
-below zero p = false
-below (suc n) p = p n || below n p
+-- does some number someBelow n pass the test?
+unfoldable pub someBelow : ℕ → (ℕ → Bool) → Bool
+someBelow zero p = false
+someBelow (suc n) p = p n || someBelow n p
 
 -- how many of a list pass the test
 unfoldable pub count {ℓ} : {A : Type ℓ} → (A → Bool) → List A → ℕ

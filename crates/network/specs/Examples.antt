@@ -8,7 +8,7 @@ use Rattle.network.specs.Counting.{count, keep}
 use Rattle.network.specs.Model.{Network, Frame, queue}
 use Rattle.network.specs.Readings.{Reading}
 use Rattle.network.specs.Oracle.{isStart, run}
-use Rattle.network.specs.Claim.{within, present}
+use Rattle.network.specs.Claim.{cameIn, present}
 
 -- ---- networks
 
@@ -58,13 +58,13 @@ unfoldable pub starts : Network → ℕ → List ℕ
 starts N u = keep (isStart N 1) (before u)
 
 -- sensor, symbol made and symbol come, frame by frame
-unfoldable pub written : List Frame → List ℕ
-written [] = []
-written (f ∷ q) = f .sensor ∷ f .made ∷ f .came ∷ written q
+unfoldable pub asNumbers : List Frame → List ℕ
+asNumbers [] = []
+asNumbers (f ∷ q) = f .sensor ∷ f .made ∷ f .came ∷ asNumbers q
 
 -- what the sink received through symbol u
 unfoldable pub received : Network → List Reading → (ℕ → ℕ → ℕ) → ℕ → List ℕ
-received N l pick u = written (run N l pick (suc u) .received)
+received N l pick u = asNumbers (run N l pick (suc u) .received)
 
 -- the length of node v's queue at the end of each symbol before u
 unfoldable pub lengths : Network → List Reading → ℕ → ℕ → List ℕ
@@ -125,7 +125,7 @@ pub record ExamplesHold : Type 0 where
   -- two readings of one symbol and one sensor add up
   pub readingsAddUp : lengths (link 3 2 2) (reading 1 1 2 ∷ reading 1 1 1 ∷ []) 1 3 ≡ 0 ∷ 3 ∷ 3 ∷ []
   -- of the frames that came to the sink in symbols 5, 7 and 15, those that came in the t symbols from 5 on, for t from 0 to 11
-  pub inStretches : map (λ t. count (within 5 t) (run (link 3 2 2) three first 31 .received)) (before 12)
+  pub inStretches : map (λ t. count (cameIn 5 t) (run (link 3 2 2) three first 31 .received)) (before 12)
       ≡ 0 ∷ 1 ∷ 1 ∷ 2 ∷ 2 ∷ 2 ∷ 2 ∷ 2 ∷ 2 ∷ 2 ∷ 2 ∷ 3 ∷ []
   -- at the end of symbol 5, frames of node 1 made in symbols 0 to 3, in its queue or at the sink
   pub accountedFor : map (present (link 3 2 2) (run (link 3 2 2) three first 6) 1) (before 4) ≡ 0 ∷ 2 ∷ 0 ∷ 1 ∷ []

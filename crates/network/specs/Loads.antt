@@ -11,7 +11,7 @@ use Rattle.network.specs.Readings.{Reading, made}
 use Rattle.network.specs.Run.{feeds}
 
 -- "a load as rate ρ (frames per BI) and burst β", and what follows from it for a link
-pub record Figures : Type 0 where
+pub record Flows : Type 0 where
   -- the token bucket of a node's own sensor; 0 and 0 where it does not sense
   pub ownRate : ℕ → ℕ
   pub ownBurst : ℕ → ℕ
@@ -25,7 +25,7 @@ pub record Figures : Type 0 where
   pub route : ℕ → ℕ
 
 -- "load after it: rate ρ, burst β + ρ × T": the burst that has left a node's link
-unfoldable pub burstAfter : Figures → ℕ → ℕ
+unfoldable pub burstAfter : Flows → ℕ → ℕ
 burstAfter F v = F .burst v + F .rate v * F .latency v
 
 -- a node that has a link: any but the sink
@@ -34,7 +34,7 @@ pub record Linked (N : Network) (v : ℕ) : Type 0 where
   pub notSink : v ≢ N .sink
 
 -- What the figures must fulfil so that they hold in every run. All of it is local to a node and its neighbours.
-pub record Provisioned (N : Network) (F : Figures) : Type 0 where
+pub record Provisioned (N : Network) (F : Flows) : Type 0 where
   -- an interval and an exchange last at least a symbol
   pub intervalPositive : 0 < N .interval
   pub exchangePositive : 0 < N .exchange
@@ -57,7 +57,7 @@ pub record Provisioned (N : Network) (F : Figures) : Type 0 where
 
 -- H5: "A sensor makes, in any t consecutive symbols, at most a frames with a × BI ≤ BURST × BI + RATE × t; this is its token bucket."
 -- The t symbols are those from x on. Asked of every node: one that does not sense has rate and burst 0 and so makes none.
-pub record Buckets (N : Network) (F : Figures) (l : List Reading) : Type 0 where
+pub record Buckets (N : Network) (F : Flows) (l : List Reading) : Type 0 where
   -- every reading is of a node of the network
   pub sensors : All (λ r. r .sensor < N .nodes) l
   pub bucket : (v x t : ℕ) → v < N .nodes → total (λ i. made l (x + i) v) t * N .interval ≤ F .ownBurst v + F .ownRate v * t

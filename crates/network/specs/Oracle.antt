@@ -6,7 +6,7 @@ use mathlib.Core.Bool.{Bool, true, false, cond, not, _&&_}
 use mathlib.Core.List.{List, [], _∷_, _++_, map}
 use Prim.Native.Nat.{ℕ, zero, suc, _+_, _*_, _-_, _%_, _≤_, _<_}
 use lib.Dec.{eqb, ltb, leb}
-use Rattle.network.specs.Counting.{below}
+use Rattle.network.specs.Counting.{someBelow}
 use Rattle.network.specs.Model.{Network, Frame, Exchange, State}
 use Rattle.network.specs.Readings.{Reading, made}
 use Rattle.network.specs.Run.{endExchanges, makeReadings, Run}
@@ -14,7 +14,7 @@ use Rattle.network.specs.Run.{endExchanges, makeReadings, Run}
 -- is symbol n a start of the link of node v?
 unfoldable pub isStart : Network → ℕ → ℕ → Bool
 isStart N v n = not (eqb v (N .sink))
-    && below (N .holds v) (λ j. let first : ℕ = N .offset v + j * N .exchange in leb first n && eqb ((n - first) % N .interval) 0)
+    && someBelow (N .holds v) (λ j. let first : ℕ = N .offset v + j * N .exchange in leb first n && eqb ((n - first) % N .interval) 0)
 
 -- what a link sends, one frame or none, and what it keeps waiting
 pub record Served : Type 0 where

@@ -7,13 +7,13 @@ use lib.ListN.{length}
 use Rattle.network.specs.Model.{Network, queue}
 use Rattle.network.specs.Readings.{Reading}
 use Rattle.network.specs.Oracle.{run}
-use Rattle.network.specs.Loads.{Figures, burstAfter, Provisioned, Buckets}
+use Rattle.network.specs.Loads.{Flows, burstAfter, Provisioned, Buckets}
 use Rattle.network.specs.Examples.{link, perNode, reading, one, first, received}
 
 -- ---- one link whose queue is filled to its bound
 
 -- BI = 10, X = 1, m = 1, ρ = 1, β = 9, so T = 11 and β + ρ × T = 20
-unfoldable pub fullFigures : Figures
+unfoldable pub fullFigures : Flows
 fullFigures = record {
   ownRate = perNode 0 1 0 0;
   ownBurst = perNode 0 9 0 0;
@@ -41,7 +41,7 @@ unfoldable pub tree : Network
 tree = record { nodes = 4; sink = 0; next = perNode 0 0 1 1; interval = 10; exchange = 1; offset = perNode 0 7 0 2; holds = perNode 0 3 1 1 }
 
 -- ρ = 1 and β = 10 for each sensor, T = 11 for nodes 2 and 3 and 9 for node 1
-unfoldable pub treeFigures : Figures
+unfoldable pub treeFigures : Flows
 treeFigures = record {
   ownRate = perNode 1 1 1 1;
   ownBurst = perNode 10 10 10 10;

@@ -6,13 +6,13 @@ use native.Mathlib.Omega.{arith}
 use lib.Dec.{lit<, lit≤}
 use lib.ListN.{length, getD}
 use Rattle.superframe_model.specs.Reservation.{framesIn}
-use Rattle.network.specs.Counting.{total, bit, below, keep, join, All, none, each}
+use Rattle.network.specs.Counting.{total, bit, someBelow, keep, join, All, none, each}
 use Rattle.network.specs.Model.{Frame, queue}
 use Rattle.network.specs.Readings.{made}
 use Rattle.network.specs.Run.{deliver, feeds, ends, arrived, arrivals, endExchanges, fresh, makeReadings}
 use Rattle.network.specs.Oracle.{isStart, idle, behind, takeOldest, serve, begun, serveAll, symbol, run}
-use Rattle.network.specs.Loads.{Figures, burstAfter, Provisioned}
-use Rattle.network.specs.Examples.{reading, first, written, received, soonFrom}
+use Rattle.network.specs.Loads.{Flows, burstAfter, Provisioned}
+use Rattle.network.specs.Examples.{reading, first, asNumbers, received, soonFrom}
 use Rattle.network.proofs.Oracles.{every-choice-is-a-run}
 use Rattle.network.proofs.Stretches.{soon-makes, soon-none, third-frame, too-late}
 use Rattle.promise_model.specs.Promise.{networkOf, Windows, Readings, Keeps}
@@ -22,7 +22,7 @@ use Rattle.promise_model.proofs.LawsHold.{covered-is-kept}
 
 -- to unfold all that a run is computed with
 unfoldable runs : Type 0
-unfolding framesIn below bit keep join queue made deliver feeds ends arrived arrivals endExchanges fresh makeReadings isStart idle behind takeOldest serve begun serveAll symbol run reading first soonFrom networkOf timing pair figures right
+unfolding framesIn someBelow bit keep join queue made deliver feeds ends arrived arrivals endExchanges fresh makeReadings isStart idle behind takeOldest serve begun serveAll symbol run reading first soonFrom networkOf timing pair figures right
 runs = Unit
 
 two : (P : ℕ → Type 0) → P 0 → P 1 → (v : ℕ) → v < 2 → P v
@@ -32,7 +32,7 @@ two P a b (suc (suc v)) h = absurd (omega (arith, h))
 
 -- ---- the figures of the calculus
 
-load : Figures
+load : Flows
 load = record {
   ownRate = λ v. getD (0 ∷ 2 ∷ []) v 0;
   ownBurst = λ v. getD (0 ∷ 960 ∷ []) v 0;
@@ -137,7 +137,7 @@ unfolding runs
 last-window v L = lit≤ tt
 
 frame-comes : received (networkOf (timing 160) pair (figures 3 3 1440 2880 2) (λ v. 0)) (soonFrom 0) first 1120 ≡ 1 ∷ 0 ∷ 1120 ∷ []
-unfolding runs received written
+unfolding runs received asNumbers
 frame-comes = refl
 
 pub examples-hold : Examples

@@ -9,15 +9,15 @@ use Rattle.links.specs.declared.Timing.{Timing}
 use Rattle.network.specs.Counting.{total}
 use Rattle.network.specs.Model.{Network, State}
 use Rattle.network.specs.Readings.{Reading, made}
-use Rattle.network.specs.Loads.{Figures, Buckets}
-use Rattle.network.specs.Claim.{Kept}
+use Rattle.network.specs.Loads.{Flows, Buckets}
+use Rattle.network.specs.Claim.{WithinBounds}
 use Rattle.network.proofs.Lists.{All-imp, All-both}
 use Rattle.network.proofs.Theorem.{every-run-is-kept}
 use Rattle.promise_model.specs.Promise.{Site, Printed, networkOf, Readings, Held}
 use Rattle.promise_model.specs.Laws.{Covered, CoveredIsKept}
 use Rattle.promise_model.proofs.Makers.{made-elsewhere, queue-made, received-made}
 
-module _ (t : Timing) (S : Site) (P : Printed) (F : Figures) (some : 0 < t .interval .0) (C : Covered t S P F) (l : List Reading) (R : Readings t S l) where
+module _ (t : Timing) (S : Site) (P : Printed) (F : Flows) (some : 0 < t .interval .0) (C : Covered t S P F) (l : List Reading) (R : Readings t S l) where
   -- every node keeps to the bucket that the figures give it
   buckets : (offset : ℕ → ℕ) → Buckets (networkOf t S P offset) F l
   unfolding networkOf
@@ -52,7 +52,7 @@ module _ (t : Timing) (S : Site) (P : Printed) (F : Figures) (some : 0 < t .inte
   maker-delay : (o c : ℕ) → 1 ≤ made l c o → F .route o ≤ P .delay o .0
   maker-delay o c h = C .delay o (maker-known o c h) (maker-senses o c h)
 
-  module _ (offset : ℕ → ℕ) (u : ℕ) (now : State) (K : Kept (networkOf t S P offset) F l u now) where
+  module _ (offset : ℕ → ℕ) (u : ℕ) (now : State) (K : WithinBounds (networkOf t S P offset) F l u now) where
     abbrev N : Network
     N = networkOf t S P offset
 

@@ -14,7 +14,7 @@ use Rattle.decimal_model.specs.Decimal.{decimal}
 use Rattle.decimal_model.proofs.Writing.{written-in-decimal, at-most-twenty}
 use Rattle.lines.specs.Text.{same}
 use Rattle.lines.proofs.Sameness.{same-equal}
-use Rattle.settings_model.specs.Columns.{Column, column, twelve, table, columnAt}
+use Rattle.settings_model.specs.Columns.{Column, column, twelve, everyColumn, columnAt}
 use Rattle.settings_model.proofs.Ranging.{table-step}
 use Rattle.reason_model.specs.declared.Match.{Match}
 use Rattle.reason_model.specs.declared.Match.the-variants.{At, Nowhere}
@@ -50,11 +50,11 @@ is-at Nowhere q e = absurd (false≢true e)
 
 -- a column with a name is one of the thirteen
 named-range : (k : ℕ) → named k ≡ true → (1 ≤ k) × (k ≤ 13)
-unfolding named twelve table
+unfolding named twelve everyColumn
 named-range k e = let h = and-eq-true-iff (leb 1 k) (leb k 13) .0 e in (leb-true 1 k (h .0), leb-true k 13 (h .1))
 
 named-read : (k : ℕ) → named k ≡ true → columnIn (columnName k) ≡ At k
-unfolding allBelow isAt ascii digits same twelve table columnAt named columnName columnFrom columnIn
+unfolding allBelow isAt ascii digits same twelve everyColumn columnAt named columnName columnFrom columnIn
 named-read k e =
     let r = named-range k e in
     let z : suc (k - 1) ≡ k = omega (arith, r .0) in
@@ -62,7 +62,7 @@ named-read k e =
 
 -- a column behind the thirteen has no name
 pub name-above : (k : ℕ) → 13 < k → columnName k ≡ decimal k
-unfolding columnName named twelve table
+unfolding columnName named twelve everyColumn
 name-above k h = rw (le-leb 1 k (omega arith), lt-leb k 13 h)
 
 -- ---- a number is no name
@@ -86,10 +86,10 @@ numbers-apart other k (c ∷ cs) w l d =
     rw (digits-apart w (ascii (c .name)) d (not-true (digits (ascii (c .name))) (h .0))) (numbers-apart other (suc k) cs w (h .1) d)
 
 unnamed-read : (k : ℕ) → k < 2 ^ 32 → named k ≡ false → columnIn (columnName k) ≡ At k
-unfolding columnIn columnName unnamed lettered ascii digits twelve table
+unfolding columnIn columnName unnamed lettered ascii digits twelve everyColumn
 unnamed-read k h e =
     let d = written-in-decimal k .onlyDigits in
-    rw (e, place-decimal k h, e) (numbers-apart (At k) 1 table (decimal k) refl d)
+    rw (e, place-decimal k h, e) (numbers-apart (At k) 1 everyColumn (decimal k) refl d)
 
 -- a column's name is read as its number
 pub column-read : (k : ℕ) → k < 2 ^ 32 → columnIn (columnName k) ≡ At k
@@ -100,7 +100,7 @@ column-read k h = by (named k) refl where
 
 -- and is a word
 named-word : (k : ℕ) → named k ≡ true → isWord (columnName k) ≡ true
-unfolding allBelow ascii twelve table columnAt named columnName isWord wordByte
+unfolding allBelow ascii twelve everyColumn columnAt named columnName isWord wordByte
 named-word k e =
     let r = named-range k e in
     let z : suc (k - 1) ≡ k = omega (arith, r .0) in
@@ -115,7 +115,7 @@ column-word k = by (named k) refl where
 
 -- of at most 20 bytes
 named-short : (k : ℕ) → named k ≡ true → length (columnName k) ≤ 20
-unfolding allBelow ascii twelve table columnAt named columnName
+unfolding allBelow ascii twelve everyColumn columnAt named columnName
 named-short k e =
     let r = named-range k e in
     let z : suc (k - 1) ≡ k = omega (arith, r .0) in
@@ -162,17 +162,17 @@ unnamed-writes w p e = by (placeIn w) refl e where
   by (At q) f g = with q f (named q) refl g
   by Nowhere f g = no-place p g
 
--- a name that is one of the table's
-name-writes : (w : List ℕ) (p j : ℕ) → j < length table → p ≡ 1 + j → ascii (getD table j (column "" 0 0) .name) ≡ w → columnName p ≡ w
-unfolding columnName named columnAt twelve table
+-- a name that is one of the everyColumn's
+name-writes : (w : List ℕ) (p j : ℕ) → j < length everyColumn → p ≡ 1 + j → ascii (getD everyColumn j (column "" 0 0) .name) ≡ w → columnName p ≡ w
+unfolding columnName named columnAt twelve everyColumn
 name-writes w p j h q n =
     let z : p - 1 ≡ j = omega (arith, q) in
     rw (le-leb 1 p (omega (arith, q)), le-leb p 13 (omega (arith, q, h)), z) n
 
 pub column-writes : (w : List ℕ) (p : ℕ) → columnIn w ≡ At p → columnName p ≡ w
 unfolding columnIn
-column-writes w p e = by (whose (unnamed (placeIn w)) 1 table w p e) where
-  by : Whose (unnamed (placeIn w)) 1 table w p → columnName p ≡ w
+column-writes w p e = by (whose (unnamed (placeIn w)) 1 everyColumn w p e) where
+  by : Whose (unnamed (placeIn w)) 1 everyColumn w p → columnName p ≡ w
   by (its j h q n) = name-writes w p j h q n
   by (else f) = unnamed-writes w p f
 
@@ -180,20 +180,20 @@ column-writes w p e = by (whose (unnamed (placeIn w)) 1 table w p e) where
 
 -- the name of the column behind the first k
 pub name-at : (k : ℕ) → k < 13 → columnName (suc k) ≡ ascii (columnAt k .name)
-unfolding columnName named twelve table
+unfolding columnName named twelve everyColumn
 name-at k h = let z : suc k - 1 ≡ k = omega arith in rw (le-leb 1 (suc k) (omega arith), le-leb (suc k) 13 h, z)
 
 module _ (other : Match) (w : List ℕ) (k : ℕ) (h : k < 13) where
   -- it is this one, or one of those behind it
-  pub column-found : same w (columnName (suc k)) ≡ true → columnFrom other (suc k) (drop k table) w ≡ At (suc k)
+  pub column-found : same w (columnName (suc k)) ≡ true → columnFrom other (suc k) (drop k everyColumn) w ≡ At (suc k)
   unfolding columnFrom
   column-found e = rw (table-step k h, sym (name-at k h), e)
 
-  pub column-later : same w (columnName (suc k)) ≡ false → columnFrom other (suc k) (drop k table) w ≡ columnFrom other (suc (suc k)) (drop (suc k) table) w
+  pub column-later : same w (columnName (suc k)) ≡ false → columnFrom other (suc k) (drop k everyColumn) w ≡ columnFrom other (suc (suc k)) (drop (suc k) everyColumn) w
   unfolding columnFrom
   column-later e = rw (table-step k h, sym (name-at k h), e)
 
 -- none is left
-pub column-none : (other : Match) (w : List ℕ) (k : ℕ) → columnFrom other k (drop 13 table) w ≡ other
-unfolding columnFrom twelve table
+pub column-none : (other : Match) (w : List ℕ) (k : ℕ) → columnFrom other k (drop 13 everyColumn) w ≡ other
+unfolding columnFrom twelve everyColumn
 column-none other w k = refl

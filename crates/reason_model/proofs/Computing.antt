@@ -4,12 +4,12 @@ use Rattle.decimal_model.specs.Number.{digits, zeroLed, spelledAfter}
 use Rattle.decimal_model.specs.Decimal.{digitsBy, decimal}
 use Rattle.lines.specs.Text.{same}
 use Rattle.refusals.specs.Refusals.{conflictPlace, treeNumber, treePlace, numberOf, placeOf}
-use Rattle.settings_model.specs.Columns.{twelve, table, columnAt}
-use Rattle.reason_model.specs.Reasons.{named, columnName, ruleOf, treePhrase, phraseOf, valuesAtOdds, treeValues, valuesOf, partOf, partText, taken, filled, reason, spoken}
+use Rattle.settings_model.specs.Columns.{twelve, everyColumn, columnAt}
+use Rattle.reason_model.specs.Reasons.{named, columnName, ruleOf, treePhrase, phraseOf, valuesAtOdds, treeValues, valuesOf, partOf, partText, taken, filled, reason, verdictLine}
 use Rattle.reason_model.specs.Reading.{wordByte, wordLength, numeral, placeIn, columnFrom, unnamed, columnIn, extent, meant, matched, sorts, readAs, readFrom, readReason}
 
 unfoldable pub worded : Type 0
-unfolding ascii digitsBy decimal conflictPlace treeNumber treePlace numberOf placeOf twelve table columnAt named columnName ruleOf treePhrase phraseOf valuesAtOdds treeValues valuesOf partOf partText taken filled reason spoken
+unfolding ascii digitsBy decimal conflictPlace treeNumber treePlace numberOf placeOf twelve everyColumn columnAt named columnName ruleOf treePhrase phraseOf valuesAtOdds treeValues valuesOf partOf partText taken filled reason verdictLine
 worded = Unit
 
 unfoldable pub taken-in : Type 0

@@ -16,10 +16,10 @@ use Rattle.refusals.specs.declared.Conflict.{Conflict}
 use Rattle.refusals.specs.declared.Conflict.the-variants.{Orders, Routers, Sensors, SinkDepth, SinkBranches, FrameLength, Unacknowledged}
 use Rattle.refusals.specs.Refusals.{conflictPlace, treeNumber, treePlace, numberOf, placeOf}
 use Rattle.measure.specs.Measures.{slots}
-use Rattle.settings_model.specs.Columns.{twelve, table, columnAt}
+use Rattle.settings_model.specs.Columns.{twelve, everyColumn, columnAt}
 use Rattle.reason_model.specs.declared.Match.{Match}
 use Rattle.reason_model.specs.declared.Match.the-variants.{At, Nowhere}
-use Rattle.reason_model.specs.declared.Reading.the-variants.{Reason}
+use Rattle.reason_model.specs.declared.ReasonRead.the-variants.{Reason}
 use Rattle.reason_model.specs.Reasons.{named, columnName, ruleOf, treePhrase, phraseOf, valuesAtOdds, treeValues, valuesOf, Part, partOf, partText, taken, filled, reason}
 use Rattle.reason_model.specs.Reading.{matched, sorts, readAs, readFrom, readReason}
 use Rattle.reason_model.specs.Laws.{ReadBack, ReasonOf, OnlyReasons, PrintableReasons}
@@ -69,7 +69,7 @@ second vs = getD (drop 1 vs) 0 0
 
 module _ (t : List ℕ) (p : ℕ) where
   conflict-of : (c : Conflict) → Fills (conflictPlace c) p (form (AtOdds c)) t → ReasonOf t 4 p
-  unfolding ascii twelve table columnAt conflictPlace numberOf placeOf named columnName ruleOf phraseOf valuesAtOdds valuesOf partOf partText taken filled reason stood placed
+  unfolding ascii twelve everyColumn columnAt conflictPlace numberOf placeOf named columnName ruleOf phraseOf valuesAtOdds valuesOf partOf partText taken filled reason stood placed
   conflict-of (Orders so bo) i = record { refusal = AtOdds (Orders (first (i .values)) (second (i .values))); itsLine = i .fills; itsNumber = refl; itsPlace = i .stays }
   conflict-of (Routers nr h) i = record { refusal = AtOdds (Routers (first (i .values)) (second (i .values))); itsLine = i .fills; itsNumber = refl; itsPlace = i .stays }
   conflict-of (Sensors ne own) i = record { refusal = AtOdds (Sensors (first (i .values)) (second (i .values))); itsLine = i .fills; itsNumber = refl; itsPlace = i .stays }

@@ -1,4 +1,4 @@
--- Each refusal is of one sort of the table, and the sorts' phrases are apart. Assumes nothing.
+-- Each refusal is of one sort of the everyColumn, and the sorts' phrases are apart. Assumes nothing.
 use mathlib.Core.Path.{_≡_, refl, ap, _∙_}
 use mathlib.Core.Bool.{Bool, true, _&&_}
 use mathlib.Core.List.{List, [], _∷_, map}
@@ -17,9 +17,9 @@ use Rattle.refusals.specs.declared.TreeRefusal.the-variants.{NodeNames, NodeLin
 use Rattle.refusals.specs.declared.Conflict.{Conflict}
 use Rattle.refusals.specs.declared.Conflict.the-variants.{Orders, Routers, Sensors, SinkDepth, SinkBranches, FrameLength, Unacknowledged}
 use Rattle.refusals.specs.Refusals.{conflictPlace, treeNumber, treePlace, numberOf, placeOf}
-use Rattle.settings_model.specs.Columns.{twelve, table, columnAt}
+use Rattle.settings_model.specs.Columns.{twelve, everyColumn, columnAt}
 use Rattle.reason_model.specs.declared.Match.the-variants.{At, Nowhere}
-use Rattle.reason_model.specs.declared.Reading.the-variants.{Reason, NoReason}
+use Rattle.reason_model.specs.declared.ReasonRead.the-variants.{Reason, NoReason}
 use Rattle.reason_model.specs.Reasons.{named, columnName, ruleOf, treePhrase, phraseOf, valuesAtOdds, treeValues, valuesOf, Part, partOf, partText, taken, filled, reason}
 use Rattle.reason_model.specs.Reading.{wordByte, matched, sorts, readAs, readFrom}
 use Rattle.reason_model.specs.Inner.{sortAt, conflictSort, treeSort, sortOf, twoValues, phraseAt, most}
@@ -82,7 +82,7 @@ wanted r = record {
 }
 
 conflict-sorted : (c : Conflict) → found (AtOdds c) ≡ wanted (AtOdds c)
-unfolding ascii twelve table columnAt conflictPlace treeNumber treePlace numberOf placeOf named columnName ruleOf treePhrase phraseOf valuesAtOdds treeValues valuesOf partOf partText taken filled wordByte sorts sortAt conflictSort treeSort sortOf endsGap ended sound stood placed code isByte apart allApart isMark unmarked once prints most
+unfolding ascii twelve everyColumn columnAt conflictPlace treeNumber treePlace numberOf placeOf named columnName ruleOf treePhrase phraseOf valuesAtOdds treeValues valuesOf partOf partText taken filled wordByte sorts sortAt conflictSort treeSort sortOf endsGap ended sound stood placed code isByte apart allApart isMark unmarked once prints most
 conflict-sorted (Orders so bo) = refl
 conflict-sorted (Routers nr h) = refl
 conflict-sorted (Sensors ne own) = refl
@@ -92,7 +92,7 @@ conflict-sorted (FrameLength head payload) = refl
 conflict-sorted (Unacknowledged loss ack) = refl
 
 tree-sorted : (r : TreeRefusal) → found (InTree r) ≡ wanted (InTree r)
-unfolding ascii twelve table columnAt conflictPlace treeNumber treePlace numberOf placeOf named columnName ruleOf treePhrase phraseOf valuesAtOdds treeValues valuesOf partOf partText taken filled wordByte sorts sortAt conflictSort treeSort sortOf endsGap ended sound stood placed code isByte apart allApart isMark unmarked once prints most
+unfolding ascii twelve everyColumn columnAt conflictPlace treeNumber treePlace numberOf placeOf named columnName ruleOf treePhrase phraseOf valuesAtOdds treeValues valuesOf partOf partText taken filled wordByte sorts sortAt conflictSort treeSort sortOf endsGap ended sound stood placed code isByte apart allApart isMark unmarked once prints most
 tree-sorted NodeNames = refl
 tree-sorted (NodeLine line) = refl
 tree-sorted SinkNode = refl
@@ -100,7 +100,7 @@ tree-sorted (RouterReservations router reservations) = refl
 tree-sorted (RouterSlots router used reservable) = refl
 
 pub sorted : (r : Refusal) → found r ≡ wanted r
-unfolding ascii twelve table columnAt conflictPlace treeNumber treePlace numberOf placeOf named columnName ruleOf treePhrase phraseOf valuesAtOdds treeValues valuesOf partOf partText taken filled wordByte sorts sortAt conflictSort treeSort sortOf endsGap ended sound stood placed code isByte apart allApart isMark unmarked once prints most
+unfolding ascii twelve everyColumn columnAt conflictPlace treeNumber treePlace numberOf placeOf named columnName ruleOf treePhrase phraseOf valuesAtOdds treeValues valuesOf partOf partText taken filled wordByte sorts sortAt conflictSort treeSort sortOf endsGap ended sound stood placed code isByte apart allApart isMark unmarked once prints most
 sorted Names = refl
 sorted (Unreadable column) = refl
 sorted (TextAfter column) = refl

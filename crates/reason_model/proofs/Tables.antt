@@ -11,7 +11,7 @@ use borrow.Author.Tests.{leb-true}
 use Rattle.decimal_model.specs.Ascii.{ascii}
 use Rattle.refusals.specs.declared.Refusal.the-variants.{Names}
 use Rattle.refusals.specs.Refusals.{conflictPlace}
-use Rattle.settings_model.specs.Columns.{Column, column, twelve, table, columnAt}
+use Rattle.settings_model.specs.Columns.{Column, column, twelve, everyColumn, columnAt}
 use Rattle.reason_model.specs.Reasons.{named, columnName, ruleOf, treePhrase, phraseOf}
 use Rattle.reason_model.specs.Reading.{sorts}
 use Rattle.reason_model.specs.Inner.{sortAt, phraseAt, joined, phrases, names}
@@ -46,21 +46,21 @@ phrase-stands i n k j z h l =
     let e : getD (part i n) j [] ≡ phraseAt k = getD-take n (drop i phrases) j [] h ∙ getD-drop i phrases j [] ∙ in-range phrases (i + j) [] (phraseOf Names) (omega arith) ∙ List·getD-map phraseOf sorts (i + j) Names ∙ ap phraseAt (sym z) in
     rw (add-one, sym e) (stands (part i n) j (omega (arith, h, part-length i n l)))
 
--- a sort that the table does not have counts as the first
+-- a sort that the everyColumn does not have counts as the first
 pub phrase-else : (k : ℕ) → 21 ≤ k → phraseAt 0 ≡ phraseAt k
 unfolding phraseAt sortAt sorts
 phrase-else k h = ap phraseOf (sym (List·getD-eq-default sorts Names h))
 
 -- no phrase is longer than 128 bytes
 pub phrase-short : (k : ℕ) → k < 21 → length (phraseAt k) ≤ 128
-unfolding allBelow ascii twelve table columnAt conflictPlace named columnName ruleOf treePhrase phraseOf sorts sortAt phraseAt
+unfolding allBelow ascii twelve everyColumn columnAt conflictPlace named columnName ruleOf treePhrase phraseOf sorts sortAt phraseAt
 phrase-short k h = leb-true (length (phraseAt k)) 128 (each-below (λ j. leb (length (phraseAt j)) 128) 21 refl k h)
 
 -- the name of a column that has one
 pub name-stands : (k : ℕ) → 1 ≤ k → k ≤ 13 → Stands names (start 0 names (k - 1)) (start 0 names k) (columnName k)
-unfolding names twelve table columnAt
+unfolding names twelve everyColumn columnAt
 name-stands k low high =
     let z : suc (k - 1) ≡ k = omega (arith, low) in
     let h : k - 1 < 13 = omega (arith, low, high) in
-    let e : getD names (k - 1) [] ≡ columnName k = in-range names (k - 1) [] (ascii "") h ∙ List·getD-map (λ (c : Column). ascii (c .name)) table (k - 1) (column "" 0 0) ∙ sym (name-at (k - 1) h) ∙ ap columnName z in
+    let e : getD names (k - 1) [] ≡ columnName k = in-range names (k - 1) [] (ascii "") h ∙ List·getD-map (λ (c : Column). ascii (c .name)) everyColumn (k - 1) (column "" 0 0) ∙ sym (name-at (k - 1) h) ∙ ap columnName z in
     rw (z, e) at (stands names (k - 1) h)

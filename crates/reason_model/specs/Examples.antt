@@ -10,8 +10,8 @@ use Rattle.refusals.specs.declared.Refusal.the-variants.{Names, Unreadable, Tex
 use Rattle.refusals.specs.declared.TreeRefusal.the-variants.{NodeNames, NodeLine, SinkNode, RouterReservations, RouterSlots}
 use Rattle.refusals.specs.declared.Conflict.the-variants.{Orders, Routers, Sensors, SinkDepth, SinkBranches, FrameLength, Unacknowledged}
 use Rattle.measure.specs.Measures.{slots}
-use Rattle.reason_model.specs.declared.Reading.{Reading}
-use Rattle.reason_model.specs.declared.Reading.the-variants.{Reason, NoReason}
+use Rattle.reason_model.specs.declared.ReasonRead.{ReasonRead}
+use Rattle.reason_model.specs.declared.ReasonRead.the-variants.{Reason, NoReason}
 use Rattle.reason_model.specs.Reasons.{reason}
 use Rattle.reason_model.specs.Reading.{readReason}
 
@@ -19,7 +19,7 @@ use Rattle.reason_model.specs.Reading.{readReason}
 pub record Example : Type 0 where
   pub refusal : Refusal
   pub line : String
-  pub reading : Reading
+  pub reading : ReasonRead
 
 abbrev pub example : Refusal → String → ℕ → ℕ → Example
 example r l n p = record { refusal = r; line = l; reading = Reason n p }

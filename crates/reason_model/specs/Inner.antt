@@ -4,7 +4,7 @@ use Prim.Native.Nat.{ℕ, _+_}
 use mathlib.Core.List.{List, [], _∷_, _++_, map}
 use lib.ListN.{getD, length}
 use Rattle.decimal_model.specs.Ascii.{ascii}
-use Rattle.settings_model.specs.Columns.{Column, table}
+use Rattle.settings_model.specs.Columns.{Column, everyColumn}
 use Rattle.refusals.specs.declared.Refusal.{Refusal}
 use Rattle.refusals.specs.declared.Refusal.the-variants.{Names, Unreadable, TextAfter, OutOfRange, AtOdds, Reservations, Superframes, SlotsUsed, LentTooShort, InputTooLong, InTree}
 use Rattle.refusals.specs.declared.TreeRefusal.{TreeRefusal}
@@ -39,7 +39,7 @@ phrases = map phraseOf sorts
 
 -- the columns' names
 unfoldable pub names : List (List ℕ)
-names = map (λ (c : Column). ascii (c .name)) table
+names = map (λ (c : Column). ascii (c .name)) everyColumn
 
 -- ---- wordings
 

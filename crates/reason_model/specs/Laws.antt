@@ -6,7 +6,7 @@ use mathlib.Core.List.{List, [], _∷_}
 use lib.Dec.{leb}
 use Rattle.refusals.specs.declared.Refusal.{Refusal}
 use Rattle.refusals.specs.Refusals.{numberOf, placeOf}
-use Rattle.reason_model.specs.declared.Reading.the-variants.{Reason}
+use Rattle.reason_model.specs.declared.ReasonRead.the-variants.{Reason}
 use Rattle.reason_model.specs.Reasons.{reason}
 use Rattle.reason_model.specs.Reading.{readReason}
 

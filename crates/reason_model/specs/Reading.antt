@@ -13,9 +13,9 @@ use Rattle.refusals.specs.declared.TreeRefusal.the-variants.{NodeNames, NodeLin
 use Rattle.refusals.specs.declared.Conflict.the-variants.{Orders, Routers, Sensors, SinkDepth, SinkBranches, FrameLength, Unacknowledged}
 use Rattle.refusals.specs.Refusals.{numberOf, placeOf}
 use Rattle.measure.specs.Measures.{slots}
-use Rattle.settings_model.specs.Columns.{Column, table}
-use Rattle.reason_model.specs.declared.Reading.{Reading}
-use Rattle.reason_model.specs.declared.Reading.the-variants.{Reason, NoReason}
+use Rattle.settings_model.specs.Columns.{Column, everyColumn}
+use Rattle.reason_model.specs.declared.ReasonRead.{ReasonRead}
+use Rattle.reason_model.specs.declared.ReasonRead.the-variants.{Reason, NoReason}
 use Rattle.reason_model.specs.declared.Match.{Match}
 use Rattle.reason_model.specs.declared.Match.the-variants.{At, Nowhere}
 use Rattle.reason_model.specs.Reasons.{named, phraseOf, Part, Byte, Name, Place, Value, partOf}
@@ -49,7 +49,7 @@ unnamed (At k) = cond (named k) Nowhere (At k)
 unnamed Nowhere = Nowhere
 
 unfoldable pub columnIn : List ℕ → Match
-columnIn w = columnFrom (unnamed (placeIn w)) 1 table w
+columnIn w = columnFrom (unnamed (placeIn w)) 1 everyColumn w
 
 -- ---- a line against a phrase, part by part
 
@@ -75,7 +75,7 @@ matched [] Nowhere t = Nowhere
 matched (x ∷ xs) (At p) t = matched xs (meant p x (take (extent x t) t)) (drop (extent x t) t)
 matched (x ∷ xs) Nowhere t = Nowhere
 
--- ---- the table of phrases, with one refusal of each sort
+-- ---- the everyColumn of phrases, with one refusal of each sort
 
 unfoldable pub sorts : List Refusal
 sorts =
@@ -103,15 +103,15 @@ sorts =
     ∷ []
 
 -- a place that was read for a refusal of this sort, or what other sorts read
-unfoldable pub readAs : Refusal → Match → Reading → Reading
+unfoldable pub readAs : Refusal → Match → ReasonRead → ReasonRead
 readAs r (At p) other = Reason (numberOf r) p
 readAs r Nowhere other = other
 
 -- number and place by the first of these sorts whose phrase the line is
-unfoldable pub readFrom : List Refusal → List ℕ → Reading
+unfoldable pub readFrom : List Refusal → List ℕ → ReasonRead
 readFrom [] line = NoReason
 readFrom (r ∷ rs) line = readAs r (matched (map partOf (phraseOf r)) (At (placeOf r)) line) (readFrom rs line)
 
 -- number and place of a line, if it is a reason
-unfoldable pub readReason : List ℕ → Reading
+unfoldable pub readReason : List ℕ → ReasonRead
 readReason line = readFrom sorts line

@@ -17,11 +17,11 @@ use Rattle.refusals.specs.declared.Conflict.the-variants.{Orders, Routers, Sens
 use Rattle.refusals.specs.declared.Verdict.{Verdict}
 use Rattle.refusals.specs.declared.Verdict.the-variants.{Kept, Broken}
 use Rattle.refusals.specs.Refusals.{conflictPlace, placeOf}
-use Rattle.settings_model.specs.Columns.{table, columnAt}
+use Rattle.settings_model.specs.Columns.{everyColumn, columnAt}
 
 -- a column has a name
 unfoldable pub named : ℕ → Bool
-named k = leb 1 k && leb k (length table)
+named k = leb 1 k && leb k (length everyColumn)
 
 -- the name of a column; its number where it has none, which no row's refusal is about
 unfoldable pub columnName : ℕ → List ℕ
@@ -45,7 +45,7 @@ treePhrase SinkNode = "The sink is no router of the tree."
 treePhrase (RouterReservations router reservations) = "Router % would have more than 7 reservations: it would have #."
 treePhrase (RouterSlots router used reservable) = "The slots used at router % are more than can be reserved: # used and # reservable."
 
--- the table: the phrase of each number. In a phrase `@` stands for the place as a column's name, `%` for the place as a number, and
+-- the everyColumn: the phrase of each number. In a phrase `@` stands for the place as a column's name, `%` for the place as a number, and
 -- each `#` for the next of the values concerned.
 unfoldable pub phraseOf : Refusal → List ℕ
 phraseOf Names = ascii "The line of names differs or is missing."
@@ -124,6 +124,6 @@ unfoldable pub reason : Refusal → List ℕ
 reason r = filled (placeOf r) (map partOf (phraseOf r)) (valuesOf r)
 
 -- the line of a row that is refused, or planned
-unfoldable pub spoken : Verdict → List ℕ
-spoken Kept = ascii "The row is planned."
-spoken (Broken r) = reason r
+unfoldable pub verdictLine : Verdict → List ℕ
+verdictLine Kept = ascii "The row is planned."
+verdictLine (Broken r) = reason r

@@ -2,7 +2,7 @@
 // reason_print and reason_read answer them.
 
 // Number and place of the refusal whose line it is, or that a line is none.
-pub enum Reading {
+pub enum ReasonRead {
     Reason { number: u32, place: u32 },
     NoReason,
 }

@@ -6,7 +6,7 @@ ghost use mathlib.Core.Path.{_≡_};
 ghost use Prim.Native.Nat.{_≤_};
 ghost use lib.ListN.{length};
 ghost use lib.Seq.{sets};
-ghost use Rattle.reason_model.specs.Reasons.{reason, spoken};
+ghost use Rattle.reason_model.specs.Reasons.{reason, verdictLine};
 use crate::filling::put_filled;
 use crate::wording::wording_of;
 use buffer::put_bytes;
@@ -40,9 +40,9 @@ pub fn put_reason(out: &mut [u8], refusal: Refusal) -> usize
 
 // Puts the line of a row that was refused, or that it is planned, and answers its length.
 pub fn put_verdict(out: &mut [u8], verdict: Verdict) -> usize
-    ensures { λ r. ⌜ r ≡ length (spoken verdict) ⌝ }
+    ensures { λ r. ⌜ r ≡ length (verdictLine verdict) ⌝ }
     ensures { λ r. ⌜ r ≤ 160 ⌝ }
-    ensures { λ _. ⌜ now (out .exit) ≡ sets (now (out .entry)) 0 (spoken verdict) ⌝ }
+    ensures { λ _. ⌜ now (out .exit) ≡ sets (now (out .entry)) 0 (verdictLine verdict) ⌝ }
 {
     if let Verdict::Broken(refusal) = verdict {
         return put_reason(out, refusal);

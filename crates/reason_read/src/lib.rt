@@ -6,26 +6,26 @@ ghost use Rattle.reason_model.specs.Reading.{readReason};
 use crate::matching::match_sort;
 use crate::matching::sort_number;
 use reason_model::Match;
-use reason_model::Reading;
+use reason_model::ReasonRead;
 
 mod numbers; // numbers in decimal, of any length
 mod names; // columns by their names
 mod matching; // a line against a phrase
 
 // Number and place of a line without its LF.
-pub fn read_reason(line: &[u8]) -> Reading
+pub fn read_reason(line: &[u8]) -> ReasonRead
     ensures { λ r. ⌜ r ≡ readReason (now (line .entry)) ⌝ }
 {
     let mut sort = 0;
     while sort < 21 {
         let found = match_sort(line, sort);
         if let Match::At(place) = found {
-            return Reading::Reason {
+            return ReasonRead::Reason {
                 number: sort_number(sort),
                 place,
             };
         }
         sort += 1;
     }
-    Reading::NoReason
+    ReasonRead::NoReason
 }

@@ -46,17 +46,17 @@ unfolding ended
 ended-snoc ls l = ended-append ls (l ∷ [])
 
 -- the lines behind the header
-abbrev pub below : List Line → List ℕ
-below p = ended (map lineText p)
+abbrev pub linesBelow : List Line → List ℕ
+linesBelow p = ended (map lineText p)
 
 -- and one more
-pub below-snoc : (p : List Line) (l : Line) → below (p ++ l ∷ []) ≡ below p ++ (lineText l ++ 10 ∷ [])
+pub below-snoc : (p : List Line) (l : Line) → linesBelow (p ++ l ∷ []) ≡ linesBelow p ++ (lineText l ++ 10 ∷ [])
 below-snoc p l = ap ended (map-append lineText p (l ∷ [])) ∙ ended-snoc (map lineText p) (lineText l)
 
 -- a plan: the header line, and the lines behind it
-pub text-below : (p : List Line) → text p ≡ (header ++ 10 ∷ []) ++ below p
+pub text-below : (p : List Line) → text p ≡ (header ++ 10 ∷ []) ++ linesBelow p
 unfolding text ended
-text-below p = sym (append-assoc header (10 ∷ []) (below p))
+text-below p = sym (append-assoc header (10 ∷ []) (linesBelow p))
 
 -- a refusal: R, and each number behind a space
 pub refusal-spaced : (r : Refusal) → refusalText r ≡ (82 ∷ []) ++ (32 ∷ decimal (numberOf r)) ++ (32 ∷ decimal (placeOf r)) ++ 10 ∷ []

@@ -35,9 +35,9 @@ pub row-outcome : (heading : Heading) (r : List ℕ) → readOutcome (rows.rowUn
 unfolding rowOutcome rowConditions spelledSettings outcomeOf rows.rowUnder rows.conditions
 row-outcome heading r =
     let s = rows.settingsOf (rows.valuesIn r) in
-    let t = rows.written 1 (columnsUnder heading) (fields r) in
-    rw (sym (append-assoc (rows.named heading) t (balanced.conditions s)))
-    (outcome-through s (rows.named heading ++ t) ∙ sym (first-append Refused (Planned (lines s)) (rows.named heading ++ t) (balanced.conditions s)))
+    let t = rows.columnsRead 1 (columnsUnder heading) (fields r) in
+    rw (sym (append-assoc (rows.headed heading) t (balanced.conditions s)))
+    (outcome-through s (rows.headed heading ++ t) ∙ sym (first-append Refused (Planned (lines s)) (rows.headed heading ++ t) (balanced.conditions s)))
 
 pub named-outcome : (names r : List ℕ) → readOutcome (rows.namedRow names r) ≡ namedOutcome names r
 unfolding namedOutcome rows.namedRow

@@ -10,7 +10,7 @@ use Rattle.refusals.specs.Outcome.{Planned, Refused}
 use Rattle.row_read_model.specs.declared.Heading.{Heading}
 use Rattle.row_read_model.specs.declared.Heading.the-variants.{Twelve, Thirteen}
 use Rattle.row_read_model.specs.Names.{isOther, columnsUnder}
-use Rattle.row_read_model.specs.Rows.{named}
+use Rattle.row_read_model.specs.Rows.{headed}
 use Rattle.row_read_model.specs.Laws.{withZero}
 use Rattle.row_read_model.proofs.WithoutLoss.{written-without-loss, settings-without-loss, names-of-twelve, names-of-thirteen}
 use Rattle.row_model.specs.Checks as balanced
@@ -25,7 +25,7 @@ settings-same row e = settings-without-loss row e
 
 pub conditions-same : {A : Type 0} (f : Refusal → A) (a : A) (row : List ℕ) → length (fields row) ≡ 12
     → firstBroken f a (rowConditions Thirteen (withZero row)) ≡ firstBroken f a (rowConditions Twelve row)
-unfolding rowConditions named isOther columnsUnder firstBroken
+unfolding rowConditions headed isOther columnsUnder firstBroken
 conditions-same f a row e = rw (settings-same row e) (written-without-loss f a row (balanced.conditions (spelledSettings row)) e)
 
 rows-without-loss : (row : List ℕ) → length (fields row) ≡ 12 → rowOutcome Thirteen (withZero row) ≡ rowOutcome Twelve row

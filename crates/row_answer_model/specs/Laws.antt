@@ -4,7 +4,7 @@ use mathlib.Core.List.{List}
 use Prim.Native.Nat.{ℕ}
 use lib.ListN.{length}
 use Rattle.lines.specs.Text.{fields}
-use Rattle.settings_model.specs.Columns.{twelve, table}
+use Rattle.settings_model.specs.Columns.{twelve, everyColumn}
 use Rattle.row_read_model.specs.declared.Heading.the-variants.{Twelve, Thirteen}
 use Rattle.row_read_model.specs.Names.{nameLine}
 use Rattle.row_read_model.specs.Laws.{withZero}
@@ -14,4 +14,4 @@ use Rattle.row_answer_model.specs.Outcomes.{rowOutcome, namedOutcome}
 -- or the same refusal with the same values
 pub record SameWithoutLoss : Type 0 where
   pub rows : (row : List ℕ) → length (fields row) ≡ 12 → rowOutcome Thirteen (withZero row) ≡ rowOutcome Twelve row
-  pub named : (row : List ℕ) → length (fields row) ≡ 12 → namedOutcome (nameLine table) (withZero row) ≡ namedOutcome (nameLine twelve) row
+  pub named : (row : List ℕ) → length (fields row) ≡ 12 → namedOutcome (nameLine everyColumn) (withZero row) ≡ namedOutcome (nameLine twelve) row

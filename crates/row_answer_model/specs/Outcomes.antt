@@ -8,7 +8,7 @@ use Rattle.refusals.specs.Conditions.{Condition, firstBroken}
 use Rattle.settings_model.specs.declared.Settings.{Settings}
 use Rattle.row_read_model.specs.declared.Heading.{Heading}
 use Rattle.row_read_model.specs.Names.{headingOf, columnsUnder}
-use Rattle.row_read_model.specs.Rows.{named, written, valuesIn, settingsOf}
+use Rattle.row_read_model.specs.Rows.{headed, columnsRead, valuesIn, settingsOf}
 use Rattle.row_model.specs.Checks as balanced
 use Rattle.row_model.specs.Lines.{lines}
 use Rattle.refusals.specs.Outcome.{Planned, Refused}
@@ -20,7 +20,7 @@ spelledSettings row = settingsOf (valuesIn row)
 
 -- numbers 1 to 7 of a row under a line of names, without its LF, in their order
 unfoldable pub rowConditions : Heading → List ℕ → List (Condition Refusal)
-rowConditions heading row = named heading ++ (written 1 (columnsUnder heading) (fields row) ++ balanced.conditions (spelledSettings row))
+rowConditions heading row = headed heading ++ (columnsRead 1 (columnsUnder heading) (fields row) ++ balanced.conditions (spelledSettings row))
 
 -- "Checked in the order of this table, the first failure answering"
 unfoldable pub rowOutcome : Heading → List ℕ → RowOutcome

@@ -8,7 +8,7 @@ use lib.ListN.{length}
 use Rattle.decimal_model.specs.Decimal.{digitsBy, decimal}
 use Rattle.lines.specs.Text.{ended}
 use Rattle.measure.specs.Measures.{symbols, slots, frames, frameSymbols, perInterval}
-use Rattle.network.specs.Counting.{bit, below, keep}
+use Rattle.network.specs.Counting.{bit, someBelow, keep}
 use Rattle.network.specs.Model.{Network, queue}
 use Rattle.network.specs.Readings.{made}
 use Rattle.network.specs.Run.{deliver, feeds, ends, arrived, endExchanges, fresh, makeReadings}
@@ -60,7 +60,7 @@ windows (suc zero) L = lit≤ tt
 windows (suc (suc v)) L = absurd (omega (arith, L .node))
 
 full : length (queue (run network fullReadings first 1020) 1) ≡ 3
-unfolding network answered lossySettings smallSettings smallRow smallTree loweredLines isChild ancestor sinkBelow towards lineOf promise.networkOf siteOf printedOf bit below soonFrom fullReadings reading first run symbol serveAll begun serve takeOldest behind idle isStart makeReadings fresh endExchanges Rattle.network.specs.Run.arrivals arrived ends feeds deliver made queue keep
+unfolding network answered lossySettings smallSettings smallRow smallTree loweredLines isChild ancestor sinkBelow towards lineOf promise.networkOf siteOf printedOf bit someBelow soonFrom fullReadings reading first run symbol serveAll begun serve takeOldest behind idle isStart makeReadings fresh endExchanges Rattle.network.specs.Run.arrivals arrived ends feeds deliver made queue keep
 full = refl
 
 pub lowered-breaks : LoweredBreaks

@@ -9,7 +9,7 @@ use Rattle.refusals.proofs.Outcomes.{unbroken-planned}
 use Rattle.report_model.specs.Text.{text}
 use Rattle.report_model.proofs.OneText.{one-text-for-lines}
 use Rattle.row_read_model.specs.Names.{headingOf, columnsUnder}
-use Rattle.row_read_model.specs.Rows.{named, written}
+use Rattle.row_read_model.specs.Rows.{headed, columnsRead}
 use Rattle.row_model.specs.Checks.{conditions}
 use Rattle.row_model.specs.Lines.{lines}
 use Rattle.row_model.specs.Outcome.{outcomeOf}
@@ -27,9 +27,9 @@ unfolding planRow rowConditions outcomeOf
 entry-promises names row before n q w =
     let s = spelledSettings row in
     let h = headingOf names in
-    let of-text = written 1 (columnsUnder h) (fields row) in
+    let of-text = columnsRead 1 (columnsUnder h) (fields row) in
     let u = standing text (lines s) (rowConditions h row) before one-text-for-lines n q w in
-    let c = unbroken-right of-text (conditions s) (unbroken-right (named h) (of-text ++ conditions s) (u .0)) in
+    let c = unbroken-right of-text (conditions s) (unbroken-right (headed h) (of-text ++ conditions s) (u .0)) in
     every-plan-keeps s q (unbroken-planned (lines s) (conditions s) c ∙ ap Planned (u .1))
 
 -- the promise of a call, from what it left

@@ -7,7 +7,7 @@ use lib.Dec.{lit<, lit≤}
 use Rattle.decimal_model.specs.Decimal.{digitsBy, decimal}
 use Rattle.lines.specs.Text.{ended}
 use Rattle.measure.specs.Measures.{symbols, slots, frames, frameSymbols, perInterval}
-use Rattle.network.specs.Counting.{bit, below, keep, All}
+use Rattle.network.specs.Counting.{bit, someBelow, keep, All}
 use Rattle.network.specs.Model.{Network, queue}
 use Rattle.network.specs.Readings.{made}
 use Rattle.network.specs.Run.{deliver, feeds, ends, arrived, endExchanges, fresh, makeReadings}
@@ -61,7 +61,7 @@ windows (suc zero) L = lit≤ tt
 windows (suc (suc v)) L = absurd (omega (arith, L .node))
 
 third : queue (run network (soonFrom 0) first 2401) 1 ≡ third-frame ∷ []
-unfolding third-frame network answered lossySettings smallSettings lossyRow smallTree losslessLines isChild ancestor sinkBelow towards lineOf promise.networkOf siteOf printedOf bit below soonFrom reading first run symbol serveAll begun serve takeOldest behind idle isStart makeReadings fresh endExchanges Rattle.network.specs.Run.arrivals arrived ends feeds deliver made queue keep
+unfolding third-frame network answered lossySettings smallSettings lossyRow smallTree losslessLines isChild ancestor sinkBelow towards lineOf promise.networkOf siteOf printedOf bit someBelow soonFrom reading first run symbol serveAll begun serve takeOldest behind idle isStart makeReadings fresh endExchanges Rattle.network.specs.Run.arrivals arrived ends feeds deliver made queue keep
 third = refl
 
 pub lossless-breaks : LosslessBreaks

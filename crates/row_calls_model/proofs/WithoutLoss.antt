@@ -7,7 +7,7 @@ use Rattle.lines.specs.Text.{fields}
 use Rattle.refusals.specs.Conditions.{firstBroken}
 use Rattle.refusals.specs.Outcome.{Outcome, Planned, Refused}
 use Rattle.refusals.proofs.Answering.{first-append}
-use Rattle.settings_model.specs.Columns.{twelve, table}
+use Rattle.settings_model.specs.Columns.{twelve, everyColumn}
 use Rattle.row_read_model.specs.declared.Heading.the-variants.{Twelve, Thirteen}
 use Rattle.row_read_model.specs.Names.{nameLine}
 use Rattle.row_read_model.specs.Laws.{withZero}
@@ -17,14 +17,14 @@ use Rattle.report_model.specs.Text.{text}
 use Rattle.row_answer_model.specs.Outcomes.{spelledSettings, rowConditions}
 use Rattle.row_read_model.proofs.WithoutLoss.{names-of-twelve, names-of-thirteen}
 use Rattle.row_answer_model.proofs.WithoutLoss as answers
-use Rattle.calls_model.specs.Calls.{told, filled, room, roomed, left, leaves}
+use Rattle.calls_model.specs.Calls.{answerTo, bufferAfter, room, outcomeWithin, left, leaves}
 use Rattle.row_calls_model.specs.Entries.{planRow, checkRow, rowLine, explainRow}
 use Rattle.row_calls_model.specs.Laws.{SameWithoutLoss}
 
 -- with number 8 behind the others
 roomed-same : (row before : List ℕ) → length (fields row) ≡ 12
-    → roomed text (lines (spelledSettings (withZero row))) (rowConditions Thirteen (withZero row)) before ≡ roomed text (lines (spelledSettings row)) (rowConditions Twelve row) before
-unfolding roomed
+    → outcomeWithin text (lines (spelledSettings (withZero row))) (rowConditions Thirteen (withZero row)) before ≡ outcomeWithin text (lines (spelledSettings row)) (rowConditions Twelve row) before
+unfolding outcomeWithin
 roomed-same row before e =
     let p = lines (spelledSettings row) in
     let r = room before (text p) in
@@ -34,15 +34,15 @@ roomed-same row before e =
     ∙ answers.conditions-same Refused a row e
     ∙ sym (first-append Refused (Planned p) (rowConditions Twelve row) r))
 
-plans-same : (row before : List ℕ) → length (fields row) ≡ 12 → planRow (nameLine table) (withZero row) before ≡ planRow (nameLine twelve) row before
+plans-same : (row before : List ℕ) → length (fields row) ≡ 12 → planRow (nameLine everyColumn) (withZero row) before ≡ planRow (nameLine twelve) row before
 unfolding planRow leaves
 plans-same row before e =
-    rw (names-of-thirteen, names-of-twelve) (ap (λ (o : Outcome (List Line)). left (told text o) (filled text before o)) (roomed-same row before e))
+    rw (names-of-thirteen, names-of-twelve) (ap (λ (o : Outcome (List Line)). left (answerTo text o) (bufferAfter text before o)) (roomed-same row before e))
 
 pub same-without-loss : SameWithoutLoss
 unfolding checkRow explainRow rowLine
 same-without-loss = record {
   plans = plans-same;
-  checks = λ row e. ap (told text) (answers.same-without-loss .named row e);
+  checks = λ row e. ap (answerTo text) (answers.same-without-loss .named row e);
   explains = λ row before e. rw (answers.same-without-loss .named row e);
 }

@@ -5,7 +5,7 @@ use mathlib.Core.Path.{_≡_}
 use mathlib.Core.List.{List}
 use lib.ListN.{length}
 use Rattle.lines.specs.Text.{fields}
-use Rattle.settings_model.specs.Columns.{twelve, table}
+use Rattle.settings_model.specs.Columns.{twelve, everyColumn}
 use Rattle.row_read_model.specs.Names.{nameLine}
 use Rattle.row_read_model.specs.Laws.{withZero}
 use Rattle.row_calls_model.specs.Entries.{planRow, checkRow, explainRow}
@@ -18,6 +18,6 @@ EntryPromises = (names row before : List ℕ) → Promised row (planRow names ro
 -- E5: "A name line of 12 names still stands for LOSS 0." Twelve values under 12 names, and the same row with LOSS 0 under 13 names: every call
 -- answers and leaves the same
 pub record SameWithoutLoss : Type 0 where
-  pub plans : (row before : List ℕ) → length (fields row) ≡ 12 → planRow (nameLine table) (withZero row) before ≡ planRow (nameLine twelve) row before
-  pub checks : (row : List ℕ) → length (fields row) ≡ 12 → checkRow (nameLine table) (withZero row) ≡ checkRow (nameLine twelve) row
-  pub explains : (row before : List ℕ) → length (fields row) ≡ 12 → explainRow (nameLine table) (withZero row) before ≡ explainRow (nameLine twelve) row before
+  pub plans : (row before : List ℕ) → length (fields row) ≡ 12 → planRow (nameLine everyColumn) (withZero row) before ≡ planRow (nameLine twelve) row before
+  pub checks : (row : List ℕ) → length (fields row) ≡ 12 → checkRow (nameLine everyColumn) (withZero row) ≡ checkRow (nameLine twelve) row
+  pub explains : (row before : List ℕ) → length (fields row) ≡ 12 → explainRow (nameLine everyColumn) (withZero row) before ≡ explainRow (nameLine twelve) row before

@@ -9,7 +9,7 @@ use Rattle.measure.specs.declared.Slots.{Slots}
 use Rattle.superframe_model.specs.Reservation.{framesIn}
 use Rattle.superframe_model.proofs.ReservationLaws.{frames-fit, latency-sum}
 use Rattle.network.specs.Model.{Network}
-use Rattle.network.specs.Loads.{Figures, burstAfter, Provisioned}
+use Rattle.network.specs.Loads.{Flows, burstAfter, Provisioned}
 use Rattle.links.specs.declared.Timing.{Timing}
 use Rattle.links.specs.declared.Load.{Load}
 use Rattle.links.specs.Link.{framesOf, latencyOf}
@@ -31,7 +31,7 @@ use Rattle.settings_model.specs.Checks.{radioOf}
 use Rattle.promise_model.specs.Promise as promise
 
 -- a node's own sensor, the load that enters it, and of its link the latency, the delay and what is ahead
-unfoldable pub treeFigures : Settings → Tree → Figures
+unfoldable pub treeFigures : Settings → Tree → Flows
 treeFigures s T = record {
   ownRate = λ v. cond (T .isRouter v) (s .own * sensor s .rate .0) (sensor s .rate .0);
   ownBurst = λ v. cond (T .isRouter v) (s .own * sensor s .burst .0) (sensor s .burst .0);

@@ -6,13 +6,13 @@ use Prim.Native.Nat.{ℕ, zero, suc, _+_, _*_, _≤_, _<_}
 use native.Mathlib.Omega.{arith}
 use lib.Dec.{eqb, lit<, lit≤}
 use Rattle.measure.specs.Measures.{arrivals}
-use Rattle.network.specs.Counting.{total, bit, below, keep, none, each}
+use Rattle.network.specs.Counting.{total, bit, someBelow, keep, none, each}
 use Rattle.network.specs.Model.{Network, queue}
 use Rattle.network.specs.Readings.{made}
 use Rattle.network.specs.Loads.{Linked}
 use Rattle.network.specs.Run.{deliver, feeds, ends, arrived, endExchanges, fresh, makeReadings}
 use Rattle.network.specs.Oracle.{isStart, idle, behind, takeOldest, serve, begun, serveAll, symbol, run}
-use Rattle.network.specs.Examples.{reading, first, written, received, lengthsAt, soonFrom}
+use Rattle.network.specs.Examples.{reading, first, asNumbers, received, lengthsAt, soonFrom}
 use Rattle.network.proofs.Sums.{total-mono}
 use Rattle.network.proofs.Oracles.{every-choice-is-a-run}
 use Rattle.row_model.specs.Checks.{routers}
@@ -34,7 +34,7 @@ unfolding plans lossySettings settings columns row smallSettings smallRow lossyR
 rows = Unit
 
 runs : Type 0
-unfolding rows bit below isChild ancestor sinkBelow towards lineOf promise.networkOf siteOf printedOf tree offsets network readings reading received written first run symbol serveAll begun serve takeOldest behind idle isStart makeReadings fresh endExchanges Rattle.network.specs.Run.arrivals arrived ends feeds deliver made queue keep lengthsAt sinkLine smallTree smallNetwork soonFrom fullReadings lossyNetwork lossyReadings
+unfolding rows bit someBelow isChild ancestor sinkBelow towards lineOf promise.networkOf siteOf printedOf tree offsets network readings reading received asNumbers first run symbol serveAll begun serve takeOldest behind idle isStart makeReadings fresh endExchanges Rattle.network.specs.Run.arrivals arrived ends feeds deliver made queue keep lengthsAt sinkLine smallTree smallNetwork soonFrom fullReadings lossyNetwork lossyReadings
 runs = Unit
 
 -- ---- the tree

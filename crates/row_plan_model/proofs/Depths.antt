@@ -12,7 +12,8 @@ use Rattle.row_plan_model.specs.declared.Link.{Link}
 use Rattle.row_model.specs.Times.{rowTiming}
 use Rattle.row_model.specs.Loads.{sensor, left, near, upward, downward}
 use Rattle.row_model.specs.Bounds.{Sound, Bounded}
-use Rattle.row_plan_model.specs.Inner.{coming, joined, leftBy, linkOf, linkUp, linkDown, noLoad}
+use Rattle.row_plan_model.specs.Inner.{coming, joined, leftBy, linkOf, linkUp, linkDown}
+use Rattle.links.specs.Link.{noLoad}
 use Rattle.plan_model.proofs.TimeLaws.{timed}
 use Rattle.row_model.proofs.LoadLaws.{upward-last, upward-step, downward-first, downward-step}
 use Rattle.row_model.proofs.LoadBounds.{sensor-bounded, near-bounded, upward-bounded, upward-left-bounded, downward-bounded, downward-left-bounded}
@@ -34,7 +35,6 @@ joined-made a x d p q r l n small h el ep eq er =
 
 -- a load with nothing coming down is the load itself
 alone : (a b : Load) (n : ℕ) → joined a b n noLoad ≡ plus a (times n b)
-unfolding noLoad
 alone a b n = ap₂ load (omega arith) (omega arith)
 
 -- the load of depth i, from the load that left depth i + 1 upward

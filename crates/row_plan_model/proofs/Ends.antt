@@ -20,7 +20,8 @@ use Rattle.row_model.specs.Bounds.{Sound, Bounded}
 use Rattle.row_model.proofs.LoadLaws.{sink-first, sink-step}
 use Rattle.row_model.proofs.LoadBounds.{upward-bounded, sink-below-bounded}
 use Rattle.row_plan_model.specs.declared.Link.{Link}
-use Rattle.row_plan_model.specs.Inner.{coming, noLoad, linkOf, linkUp}
+use Rattle.row_plan_model.specs.Inner.{coming, linkOf, linkUp}
+use Rattle.links.specs.Link.{noLoad}
 use Rattle.row_plan_model.specs.Pages.{Page, pushed, filled}
 use Rattle.row_plan_model.proofs.Made.{fits}
 
@@ -38,12 +39,12 @@ end-some s t u f h ef eu = eu ∙ rw (lt-ltb 0 (s .ne) h, ef)
 
 -- what comes to the sink: the upward load of its depth, and what comes down to it
 sink-joined : (s : Settings) (n : ℕ) → plus (upward s n) (coming s n) ≡ sinkAt s n
-unfolding coming noLoad
+unfolding coming
 sink-joined s zero = ap₂ load (omega arith) (omega arith) ∙ sym (sink-first s)
 sink-joined s (suc i) = sym (sink-step s i)
 
 sink-bounded : (s : Settings) → Sound s → (n : ℕ) → n ≡ s .sink → Bounded (plus (upward s n) (coming s n))
-unfolding coming noLoad
+unfolding coming
 sink-bounded s S zero e = let b = upward-bounded s S 0 in record { rate = omega (arith, b .rate); burst = omega (arith, b .burst) }
 sink-bounded s S (suc i) e = sink-below-bounded s S i (omega arith)
 

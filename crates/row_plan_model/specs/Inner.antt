@@ -8,7 +8,7 @@ use lib.Seq.{sets}
 use Rattle.measure.specs.Measures.{symbols, slots, frames}
 use Rattle.links.specs.declared.Load.{Load}
 use Rattle.links.specs.declared.Timing.{Timing}
-use Rattle.links.specs.Link.{load, plus, times, afterLink, reservationOf}
+use Rattle.links.specs.Link.{load, noLoad, plus, times, afterLink, reservationOf}
 use Rattle.refusals.specs.declared.Refusal.{Refusal}
 use Rattle.refusals.specs.declared.Verdict.{Verdict}
 use Rattle.refusals.specs.declared.Verdict.the-variants.{Kept, Broken}
@@ -78,9 +78,6 @@ pub record LinksHeld (s : Settings) (l : Links) (up down : List ℕ) : Type 0 wh
   pub arriving : l .arriving ≡ atSink s
 
 -- ---- loads
-
-unfoldable pub noLoad : Load
-noLoad = load 0 0
 
 -- what comes down to the router of depth i on the sink's path: nothing to the root, else what left the router above it
 unfoldable pub coming : Settings → ℕ → Load

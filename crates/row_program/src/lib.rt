@@ -11,9 +11,9 @@ ghost use Rattle.lines.specs.Text.{lineAt, ended};
 ghost use Rattle.refusals.specs.declared.Verdict.the-variants.{Kept, Broken};
 ghost use Rattle.refusals.specs.Conditions.{firstBroken};
 ghost use Rattle.row_answer_model.specs.Outcomes.{rowOutcome};
-ghost use Rattle.reason_model.specs.Reasons.{spoken};
+ghost use Rattle.reason_model.specs.Reasons.{verdictLine};
 ghost use Rattle.row_program_model.specs.declared.Style.the-variants.{Plans, Reasons};
-ghost use Rattle.row_read_model.specs.Rows.{named};
+ghost use Rattle.row_read_model.specs.Rows.{headed};
 ghost use Rattle.program_model.specs.Printed.{tooLong};
 ghost use Rattle.row_program_model.specs.Output.{headingIn, printed, refusalPrinted};
 ghost use Rattle.row_program_model.specs.Steps.{start, rowsFrom, behind, opening, rowAt, step, piece};
@@ -101,7 +101,7 @@ fn heading_in(input: &[u8]) -> Heading
 
 // Numbers 9 and 1, in this order.
 fn check_input(heading: Heading, input: &[u8]) -> Verdict
-    ensures { λ r. ⌜ r ≡ firstBroken Broken Kept (tooLong (now (input .entry)) ++ named heading) ⌝ }
+    ensures { λ r. ⌜ r ≡ firstBroken Broken Kept (tooLong (now (input .entry)) ++ headed heading) ⌝ }
 {
     if LIMIT < input.len() {
         return Verdict::Broken(Refusal::InputTooLong);
@@ -148,9 +148,9 @@ fn put_refused(style: Style, refusal: Refusal, out: &mut [u8]) -> usize
 
 // A line of English and its LF.
 fn put_spoken(verdict: Verdict, out: &mut [u8]) -> usize
-    ensures { λ r. ⌜ r ≡ length (ended (spoken verdict ∷ [])) ⌝ }
+    ensures { λ r. ⌜ r ≡ length (ended (verdictLine verdict ∷ [])) ⌝ }
     ensures { λ r. ⌜ r ≤ 4476 ⌝ }
-    ensures { λ _. ⌜ now (out .exit) ≡ sets (now (out .entry)) 0 (ended (spoken verdict ∷ [])) ⌝ }
+    ensures { λ _. ⌜ now (out .exit) ≡ sets (now (out .entry)) 0 (ended (verdictLine verdict ∷ [])) ⌝ }
 {
     let n = put_verdict(out, verdict);
     put_byte(out, n, 0, 10);

@@ -15,17 +15,17 @@ use Rattle.refusals.specs.declared.Refusal.the-variants.{Names, InputTooLong}
 use Rattle.refusals.specs.declared.Verdict.the-variants.{Kept, Broken}
 use Rattle.refusals.specs.Conditions.{condition, firstBroken}
 use Rattle.refusals.proofs.Answering.{verdict, answer-broken, answer-kept}
-use Rattle.settings_model.specs.Columns.{twelve, table}
+use Rattle.settings_model.specs.Columns.{twelve, everyColumn}
 use Rattle.row_read_model.specs.declared.Heading.{Heading}
 use Rattle.row_read_model.specs.declared.Heading.the-variants.{Other}
 use Rattle.row_read_model.specs.Names.{nameLine, headingOf, isOther}
-use Rattle.row_read_model.specs.Rows.{named}
+use Rattle.row_read_model.specs.Rows.{headed}
 use Rattle.refusals.specs.Outcome.{Planned, Refused}
 use Rattle.row_model.specs.Outcome.{RowOutcome}
 use Rattle.plan_model.specs.declared.Line.{Line}
 use Rattle.plan_model.specs.Plans.{planned, refused, answer}
 use Rattle.report_model.specs.Text.{text}
-use Rattle.reason_model.specs.Reasons.{spoken}
+use Rattle.reason_model.specs.Reasons.{verdictLine}
 use Rattle.row_program_model.specs.declared.Style.{Style}
 use Rattle.row_program_model.specs.declared.Style.the-variants.{Reasons}
 use Rattle.row_program_model.specs.Output.{printed, refusalPrinted, headingIn, inputConditions}
@@ -39,7 +39,7 @@ opened h b n = record { bytes = b; next = rowsFrom h n; more = true }
 module _ (input : List ℕ) where
   -- there is no line
   pub no-names : lineAt input 0 ≡ Nothing → Other ≡ headingIn input
-  unfolding headingIn headingOf same nameLine joined twelve table ascii
+  unfolding headingIn headingOf same nameLine joined twelve everyColumn ascii
   no-names e = sym (ap (λ (ls : List (List ℕ)). headingOf (getD ls 0 [])) (nothing-is-left input 0 e))
 
   -- the first line
@@ -48,34 +48,34 @@ module _ (input : List ℕ) where
   first-names from end next e = sym (ap (λ (ls : List (List ℕ)). headingOf (getD ls 0 [])) (found-advances input 0 from end next e .first))
 
   -- number 9
-  pub too-long : (heading : Heading) → 65536 < length input → Broken InputTooLong ≡ verdict (tooLong input ++ named heading)
+  pub too-long : (heading : Heading) → 65536 < length input → Broken InputTooLong ≡ verdict (tooLong input ++ headed heading)
   unfolding firstBroken tooLong
-  too-long heading h = sym (ap (λ (b : Bool). verdict (condition b InputTooLong ∷ named heading)) (lt-ltb 65536 (length input) h))
+  too-long heading h = sym (ap (λ (b : Bool). verdict (condition b InputTooLong ∷ headed heading)) (lt-ltb 65536 (length input) h))
 
   -- number 1
   module _ (heading : Heading) (h : length input ≤ 65536) where
-    by-names : verdict (tooLong input ++ named heading) ≡ verdict (named heading)
+    by-names : verdict (tooLong input ++ headed heading) ≡ verdict (headed heading)
     unfolding firstBroken tooLong
-    by-names = ap (λ (b : Bool). verdict (condition b InputTooLong ∷ named heading)) (le-ltb 65536 (length input) h)
+    by-names = ap (λ (b : Bool). verdict (condition b InputTooLong ∷ headed heading)) (le-ltb 65536 (length input) h)
 
-    pub right-names : isOther heading ≡ false → Kept ≡ verdict (tooLong input ++ named heading)
-    unfolding firstBroken named
+    pub right-names : isOther heading ≡ false → Kept ≡ verdict (tooLong input ++ headed heading)
+    unfolding firstBroken headed
     right-names n = sym (by-names ∙ rw n)
 
-    pub other-names : isOther heading ≡ true → Broken Names ≡ verdict (tooLong input ++ named heading)
-    unfolding firstBroken named
+    pub other-names : isOther heading ≡ true → Broken Names ≡ verdict (tooLong input ++ headed heading)
+    unfolding firstBroken headed
     other-names n = sym (by-names ∙ rw n)
 
 module _ (s : Style) (input : List ℕ) (heading : Heading) (e : heading ≡ headingIn input) where
   -- the first step
-  pub opening-refused : (r : Refusal) → verdict (tooLong input ++ named heading) ≡ Broken r
+  pub opening-refused : (r : Refusal) → verdict (tooLong input ++ headed heading) ≡ Broken r
       → opening s input ≡ record { bytes = refusalPrinted s r; next = rowsFrom heading (length input); more = true }
   unfolding opening inputConditions
   opening-refused r v =
       let w = rw e at v in
       rw e (ap₂ (opened (headingIn input)) (answer-broken (refusalPrinted s) _ (inputConditions input) r w) (answer-broken (λ x. length input) _ (inputConditions input) r w))
 
-  pub opening-named : verdict (tooLong input ++ named heading) ≡ Kept
+  pub opening-named : verdict (tooLong input ++ headed heading) ≡ Kept
       → opening s input ≡ record { bytes = []; next = rowsFrom heading (behind (lineAt input 0)); more = true }
   unfolding opening inputConditions
   opening-named v =
@@ -83,7 +83,7 @@ module _ (s : Style) (input : List ℕ) (heading : Heading) (e : heading ≡ hea
       rw e (ap₂ (opened (headingIn input)) (answer-kept _ [] (inputConditions input) w) (answer-kept _ (behind (lineAt input 0)) (inputConditions input) w))
 
 -- a row's line, by its verdict, whatever its plan is put as
-pub spoken-verdict : (put : List Line → List ℕ) (o : RowOutcome) → ended (spoken (answer put o .verdict) ∷ []) ≡ printed Reasons o
+pub spoken-verdict : (put : List Line → List ℕ) (o : RowOutcome) → ended (verdictLine (answer put o .verdict) ∷ []) ≡ printed Reasons o
 unfolding printed answer planned refused
 spoken-verdict put (Planned p) = refl
 spoken-verdict put (Refused r) = refl

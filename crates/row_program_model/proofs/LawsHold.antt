@@ -21,7 +21,7 @@ use Rattle.plan_model.specs.Plans.{answer}
 use Rattle.program_model.specs.Printed as program
 use Rattle.row_read_model.specs.declared.Heading.{Heading}
 use Rattle.row_answer_model.specs.Outcomes.{rowOutcome}
-use Rattle.reason_model.specs.Reasons.{spoken}
+use Rattle.reason_model.specs.Reasons.{verdictLine}
 use Rattle.reason_model.proofs.Computing.{worded}
 use Rattle.row_program_model.specs.declared.Style.{Style}
 use Rattle.row_program_model.specs.declared.Style.the-variants.{Plans, Reasons}
@@ -149,5 +149,5 @@ pub one-line-for-row : OneLineForRow
 unfolding rowsPrinted ended
 one-line-for-row h [] = refl
 one-line-for-row h (r ∷ rs) =
-    let t : List ℕ = spoken (answer text (rowOutcome h r) .verdict) in
+    let t : List ℕ = verdictLine (answer text (rowOutcome h r) .verdict) in
     rw (sym (spoken-verdict text (rowOutcome h r)), one-line-for-row h rs) (append-assoc t (10 ∷ []) _)

@@ -12,11 +12,11 @@ use Rattle.lines.specs.Text.{fields, joined, lines, ended}
 use Rattle.lines.specs.Laws.{lacks, allLack}
 use Rattle.lines.proofs.Parting.{all-lack-head, lacks-both, lines-of-text}
 use Rattle.refusals.specs.Conditions.{firstBroken}
-use Rattle.settings_model.specs.Columns.{twelve, table}
+use Rattle.settings_model.specs.Columns.{twelve, everyColumn}
 use Rattle.row_read_model.specs.declared.Heading.{Heading}
 use Rattle.row_read_model.specs.declared.Heading.the-variants.{Twelve, Thirteen}
 use Rattle.row_read_model.specs.Names.{nameLine, headingOf, isOther}
-use Rattle.row_read_model.specs.Rows.{named}
+use Rattle.row_read_model.specs.Rows.{headed}
 use Rattle.row_read_model.specs.Laws.{withZero}
 use Rattle.row_model.specs.Outcome.{RowOutcome}
 use Rattle.row_read_model.proofs.WithoutLoss.{names-of-twelve, names-of-thirteen}
@@ -40,7 +40,7 @@ module _ (s : Style) (heading : Heading) (names : List ℕ) (rows : List (List �
   input = ended (names ∷ rows)
 
   rows-printed : headingOf names ≡ heading → isOther heading ≡ false → lines input ≡ names ∷ rows → output s input ≡ rowsPrinted s heading rows
-  unfolding output inputConditions tooLong headingIn named firstBroken input
+  unfolding output inputConditions tooLong headingIn headed firstBroken input
   rows-printed h o e = rw (le-ltb 65536 (length input) few, e, h, o)
 
 -- the rows with LOSS 0 have no LF either
@@ -64,8 +64,8 @@ zeros-longer (r ∷ rs) =
       length-append r (32 ∷ 48 ∷ []),
     )
 
-names-longer : (rows : List (List ℕ)) → length (ended (nameLine twelve ∷ rows)) ≤ length (ended (nameLine table ∷ map withZero rows))
-unfolding ended nameLine joined twelve table ascii
+names-longer : (rows : List (List ℕ)) → length (ended (nameLine twelve ∷ rows)) ≤ length (ended (nameLine everyColumn ∷ map withZero rows))
+unfolding ended nameLine joined twelve everyColumn ascii
 names-longer rows = omega (arith, zeros-longer rows)
 
 -- a line of names has no LF
@@ -78,10 +78,10 @@ twelve-printed : (s : Style) (rows : List (List ℕ)) → allLack 10 rows ≡ tr
 unfolding isOther nameLine joined twelve ascii lacks input
 twelve-printed s rows e few = rows-printed s Twelve (nameLine twelve) rows few names-of-twelve refl (with-names (nameLine twelve) rows refl e)
 
-thirteen-printed : (s : Style) (rows : List (List ℕ)) → allLack 10 rows ≡ true → length (ended (nameLine table ∷ rows)) ≤ 65536
-    → output s (ended (nameLine table ∷ rows)) ≡ rowsPrinted s Thirteen rows
-unfolding isOther nameLine joined twelve table ascii lacks input
-thirteen-printed s rows e few = rows-printed s Thirteen (nameLine table) rows few names-of-thirteen refl (with-names (nameLine table) rows refl e)
+thirteen-printed : (s : Style) (rows : List (List ℕ)) → allLack 10 rows ≡ true → length (ended (nameLine everyColumn ∷ rows)) ≤ 65536
+    → output s (ended (nameLine everyColumn ∷ rows)) ≡ rowsPrinted s Thirteen rows
+unfolding isOther nameLine joined twelve everyColumn ascii lacks input
+thirteen-printed s rows e few = rows-printed s Thirteen (nameLine everyColumn) rows few names-of-thirteen refl (with-names (nameLine everyColumn) rows refl e)
 
 pub same-without-loss : SameWithoutLoss
 same-without-loss = record {

@@ -9,16 +9,16 @@ use Rattle.decimal_model.specs.Ascii.{ascii}
 use Rattle.lines.specs.Text.{fields, lines, ended}
 use Rattle.lines.specs.Laws.{allLack}
 use Rattle.refusals.specs.Conditions.{firstBroken}
-use Rattle.settings_model.specs.Columns.{twelve, table}
+use Rattle.settings_model.specs.Columns.{twelve, everyColumn}
 use Rattle.row_read_model.specs.declared.Heading.{Heading}
 use Rattle.row_read_model.specs.declared.Heading.the-variants.{Twelve, Thirteen}
 use Rattle.row_read_model.specs.Names.{nameLine}
-use Rattle.row_read_model.specs.Rows.{named}
+use Rattle.row_read_model.specs.Rows.{headed}
 use Rattle.row_read_model.specs.Laws.{withZero}
 use Rattle.plan_model.specs.Plans.{answer}
 use Rattle.row_answer_model.specs.Outcomes.{rowOutcome}
 use Rattle.report_model.specs.Text.{text}
-use Rattle.reason_model.specs.Reasons.{spoken}
+use Rattle.reason_model.specs.Reasons.{verdictLine}
 use Rattle.row_program_model.specs.declared.Style.{Style}
 use Rattle.row_program_model.specs.declared.Style.the-variants.{Plans, Reasons}
 use Rattle.row_program_model.specs.declared.Progress.{Progress}
@@ -35,12 +35,12 @@ LongInputs =
 abbrev pub OtherInputs : Type 0
 OtherInputs =
     (s : Style) (input : List ℕ) → length input ≤ 65536
-    → output s input ≡ firstBroken (refusalPrinted s) (rowsPrinted s (headingIn input) (drop 1 (lines input))) (named (headingIn input))
+    → output s input ≡ firstBroken (refusalPrinted s) (rowsPrinted s (headingIn input) (drop 1 (lines input))) (headed (headingIn input))
 
 -- reasons are one line for each row, in the rows' order: that it is planned, or why it is refused
 abbrev pub OneLineForRow : Type 0
 OneLineForRow = (heading : Heading) (rows : List (List ℕ))
-    → rowsPrinted Reasons heading rows ≡ ended (map (λ (r : List ℕ). spoken (answer text (rowOutcome heading r) .verdict)) rows)
+    → rowsPrinted Reasons heading rows ≡ ended (map (λ (r : List ℕ). verdictLine (answer text (rowOutcome heading r) .verdict)) rows)
 
 -- rows of twelve values each
 unfoldable pub allTwelve : List (List ℕ) → Bool
@@ -52,8 +52,8 @@ allTwelve (r ∷ rs) = eqb (length (fields r)) 12 && allTwelve rs
 pub record SameWithoutLoss : Type 0 where
   pub rows : (s : Style) (rows : List (List ℕ)) → allTwelve rows ≡ true → rowsPrinted s Thirteen (map withZero rows) ≡ rowsPrinted s Twelve rows
   pub inputs : (s : Style) (rows : List (List ℕ)) → allTwelve rows ≡ true → allLack 10 rows ≡ true
-      → length (ended (nameLine table ∷ map withZero rows)) ≤ 65536
-      → output s (ended (nameLine table ∷ map withZero rows)) ≡ output s (ended (nameLine twelve ∷ rows))
+      → length (ended (nameLine everyColumn ∷ map withZero rows)) ≤ 65536
+      → output s (ended (nameLine everyColumn ∷ map withZero rows)) ≡ output s (ended (nameLine twelve ∷ rows))
 
 -- what is left: the bytes behind a position, and one step before the first row
 unfoldable pub toGo : List ℕ → Progress → ℕ

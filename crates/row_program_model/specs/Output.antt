@@ -8,14 +8,14 @@ use Rattle.refusals.specs.declared.Verdict.the-variants.{Kept, Broken}
 use Rattle.refusals.specs.Conditions.{Condition, firstBroken}
 use Rattle.row_read_model.specs.declared.Heading.{Heading}
 use Rattle.row_read_model.specs.Names.{headingOf}
-use Rattle.row_read_model.specs.Rows.{named}
+use Rattle.row_read_model.specs.Rows.{headed}
 use Rattle.refusals.specs.Outcome.{Planned, Refused}
 use Rattle.row_model.specs.Outcome.{RowOutcome}
 use Rattle.row_answer_model.specs.Outcomes.{rowOutcome}
 use Rattle.report_model.specs.Text.{text}
 use Rattle.program_model.specs.Printed as program
 use Rattle.program_model.specs.Printed.{tooLong}
-use Rattle.reason_model.specs.Reasons.{spoken}
+use Rattle.reason_model.specs.Reasons.{verdictLine}
 use Rattle.row_program_model.specs.declared.Style.{Style}
 use Rattle.row_program_model.specs.declared.Style.the-variants.{Plans, Reasons}
 
@@ -23,8 +23,8 @@ use Rattle.row_program_model.specs.declared.Style.the-variants.{Plans, R
 -- of English, that it is planned or why it is refused.
 unfoldable pub printed : Style → RowOutcome → List ℕ
 printed Plans o = program.printed text o
-printed Reasons (Planned p) = ended (spoken Kept ∷ [])
-printed Reasons (Refused r) = ended (spoken (Broken r) ∷ [])
+printed Reasons (Planned p) = ended (verdictLine Kept ∷ [])
+printed Reasons (Refused r) = ended (verdictLine (Broken r) ∷ [])
 
 -- and for a refusal
 abbrev pub refusalPrinted : Style → Refusal → List ℕ
@@ -41,7 +41,7 @@ headingIn input = headingOf (getD (lines input) 0 [])
 
 -- numbers 9 and 1, in this order: "Number 9 [..] comes before all others"
 unfoldable pub inputConditions : List ℕ → List (Condition Refusal)
-inputConditions input = tooLong input ++ named (headingIn input)
+inputConditions input = tooLong input ++ headed (headingIn input)
 
 -- all that is printed: "After 1 or 9 one `R` line is all", else the rows behind the name line
 unfoldable pub output : Style → List ℕ → List ℕ

@@ -7,7 +7,7 @@ ghost use Rattle.refusals.specs.declared.Verdict.the-variants.{Kept, Broken};
 ghost use Rattle.refusals.specs.declared.Refusal.the-variants.{Unreadable, TextAfter};
 ghost use Rattle.refusals.specs.Conditions.{firstBroken};
 ghost use Rattle.row_read_model.specs.Names.{columnsUnder};
-ghost use Rattle.row_read_model.specs.Rows.{written, valuesIn, settingsOf};
+ghost use Rattle.row_read_model.specs.Rows.{columnsRead, valuesIn, settingsOf};
 use decimal_model::Number;
 use refusals::Refusal;
 use refusals::Verdict;
@@ -23,7 +23,7 @@ pub struct Values {
 
 // The values of a row under a line of names. A value is the run of bytes between single spaces.
 pub(crate) fn read_values(heading: Heading, row: &[u8]) -> Values
-    ensures { λ r. ⌜ r .verdict ≡ firstBroken Broken Kept (written 1 (columnsUnder heading) (fields (now (row .entry)))) ⌝ }
+    ensures { λ r. ⌜ r .verdict ≡ firstBroken Broken Kept (columnsRead 1 (columnsUnder heading) (fields (now (row .entry)))) ⌝ }
     ensures { λ r. ⌜ (r .verdict ≡ Kept → settingsOf (r .numbers) ≡ settingsOf (valuesIn (now (row .entry)))) ⌝ }
 {
     let columns = column_count(heading);

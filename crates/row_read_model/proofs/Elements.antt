@@ -5,7 +5,7 @@ use Prim.Native.Nat.{ℕ, zero, suc, _+_, _≤_}
 use native.Mathlib.Omega.{arith}
 use lib.ListN.{length, getD, take, drop, drop-of-length-le}
 use lib.Seq.{drop-cons}
-use Rattle.settings_model.specs.Columns.{twelve, table}
+use Rattle.settings_model.specs.Columns.{twelve, everyColumn}
 use Rattle.settings_model.specs.Checks.{valuesOf}
 use Rattle.row_read_model.specs.declared.Heading.{Heading}
 use Rattle.row_read_model.specs.declared.Heading.the-variants.{Twelve, Thirteen, Other}
@@ -25,7 +25,7 @@ drop-elements (suc n) k vs l =
 
 -- settings have all values of a row
 pub values-of-settings : (heading : Heading) (vs : List ℕ) → length vs ≡ length (columnsUnder heading) → take (length (columnsUnder heading)) (valuesOf (settingsOf vs)) ≡ vs
-unfolding elements valuesOf settingsOf columnsUnder twelve table
+unfolding elements valuesOf settingsOf columnsUnder twelve everyColumn
 values-of-settings Twelve vs l = sym (drop-elements 12 0 vs l)
 values-of-settings Thirteen vs l = sym (drop-elements 13 0 vs l)
 values-of-settings Other vs l = sym (drop-elements 0 0 vs l)

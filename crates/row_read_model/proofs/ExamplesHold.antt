@@ -5,13 +5,13 @@ use Rattle.decimal_model.specs.Number.{digits, zeroLed, shaped, readable, spell
 use Rattle.lines.specs.Text.{same, before, pieces, fields, joined}
 use Rattle.refusals.specs.Refusals.{numberOf, placeOf}
 use Rattle.refusals.specs.Conditions.{firstBroken}
-use Rattle.settings_model.specs.Columns.{twelve, table}
+use Rattle.settings_model.specs.Columns.{twelve, everyColumn}
 use Rattle.row_read_model.specs.Names.{nameLine, headingOf, isOther, columnsUnder}
-use Rattle.row_read_model.specs.Rows.{named, written, valuesIn, settingsOf, conditions, rowUnder, namedRow}
+use Rattle.row_read_model.specs.Rows.{headed, columnsRead, valuesIn, settingsOf, conditions, rowUnder, namedRow}
 use Rattle.row_read_model.specs.Examples.{answered, under, asked, askedLossy, behind, behindLoss, Examples}
 
 pub examples-hold : Examples
-unfolding ascii digits zeroLed shaped readable spelledAfter before pieces fields joined nameLine same headingOf isOther columnsUnder numberOf placeOf firstBroken twelve table named written valuesIn settingsOf conditions rowUnder namedRow answered under asked askedLossy behind behindLoss
+unfolding ascii digits zeroLed shaped readable spelledAfter before pieces fields joined nameLine same headingOf isOther columnsUnder numberOf placeOf firstBroken twelve everyColumn headed columnsRead valuesIn settingsOf conditions rowUnder namedRow answered under asked askedLossy behind behindLoss
 examples-hold = record {
   names = refl;
   lossyNames = refl;

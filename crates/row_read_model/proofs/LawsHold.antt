@@ -16,7 +16,7 @@ use Rattle.row_read_model.specs.declared.Heading.{Heading}
 use Rattle.row_read_model.specs.declared.Row.{Row}
 use Rattle.row_read_model.specs.declared.Row.the-variants.{Read, Refused}
 use Rattle.row_read_model.specs.Names.{columnsUnder}
-use Rattle.row_read_model.specs.Rows.{named, written, valuesIn, settingsOf, conditions, rowUnder}
+use Rattle.row_read_model.specs.Rows.{headed, columnsRead, valuesIn, settingsOf, conditions, rowUnder}
 use Rattle.row_read_model.specs.Laws.{ReadWhereUnbroken, OneRowForSettings}
 use Rattle.row_read_model.proofs.RowCases.{values-length}
 use Rattle.row_read_model.proofs.Elements.{values-of-settings}
@@ -44,14 +44,14 @@ read-where-unbroken heading row s = (
   λ h. unbroken-first Refused (Read (settingsOf (valuesIn row))) (conditions heading row) (h .0) ∙ ap Read (h .1),
 )
 
--- a row of which no condition is broken is written
-is-written : (heading : Heading) (row : List ℕ) → Unbroken (conditions heading row) → Unbroken (written 1 (columnsUnder heading) (fields row))
+-- a row of which no condition is broken is columnsRead
+is-written : (heading : Heading) (row : List ℕ) → Unbroken (conditions heading row) → Unbroken (columnsRead 1 (columnsUnder heading) (fields row))
 unfolding conditions
-is-written heading row u = unbroken-right (named heading) (written 1 (columnsUnder heading) (fields row)) u
+is-written heading row u = unbroken-right (headed heading) (columnsRead 1 (columnsUnder heading) (fields row)) u
 
--- a row that is written has as many values as there are columns
-all-values : (heading : Heading) (row : List ℕ) → Unbroken (written 1 (columnsUnder heading) (fields row)) → length (valuesIn row) ≡ length (columnsUnder heading)
-all-values heading row u = values-length heading row (unbroken-first Broken Kept (written 1 (columnsUnder heading) (fields row)) u)
+-- a row that is columnsRead has as many values as there are columns
+all-values : (heading : Heading) (row : List ℕ) → Unbroken (columnsRead 1 (columnsUnder heading) (fields row)) → length (valuesIn row) ≡ length (columnsUnder heading)
+all-values heading row u = values-length heading row (unbroken-first Broken Kept (columnsRead 1 (columnsUnder heading) (fields row)) u)
 
 -- the same settings have the same values
 same-numbers : (heading : Heading) (vs ws : List ℕ) → length vs ≡ length (columnsUnder heading) → length ws ≡ length (columnsUnder heading) → settingsOf vs ≡ settingsOf ws → vs ≡ ws

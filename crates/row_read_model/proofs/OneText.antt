@@ -9,12 +9,12 @@ use Rattle.decimal_model.specs.Number.{readable, spelled}
 use Rattle.decimal_model.proofs.OneSpelling.{one-spelling}
 use Rattle.settings_model.specs.Columns.{Column}
 use Rattle.refusals.specs.Conditions.{Unbroken}
-use Rattle.row_read_model.specs.Rows.{written}
+use Rattle.row_read_model.specs.Rows.{columnsRead}
 
 -- readable values of the same numbers are the same
-pub same-values : (k : ℕ) (cs : List Column) (fs gs : List (List ℕ)) → Unbroken (written k cs fs) → Unbroken (written k cs gs)
+pub same-values : (k : ℕ) (cs : List Column) (fs gs : List (List ℕ)) → Unbroken (columnsRead k cs fs) → Unbroken (columnsRead k cs gs)
     → map spelled fs ≡ map spelled gs → fs ≡ gs
-unfolding written
+unfolding columnsRead
 same-values k [] [] [] u w e = refl
 same-values k [] [] (g ∷ gs) u w e = absurd (false≢true (sym (w .0)))
 same-values k [] (f ∷ fs) gs u w e = absurd (false≢true (sym (u .0)))

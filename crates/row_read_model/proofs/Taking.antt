@@ -15,7 +15,7 @@ use Rattle.refusals.specs.declared.Refusal.the-variants.{Unreadable, TextAfter}
 use Rattle.refusals.specs.declared.Verdict.the-variants.{Kept, Broken}
 use Rattle.lines.specs.Text.{fields}
 use Rattle.settings_model.specs.Columns.{Column}
-use Rattle.row_read_model.specs.Rows.{written, valuesIn, settingsOf}
+use Rattle.row_read_model.specs.Rows.{columnsRead, valuesIn, settingsOf}
 use Rattle.lines.proofs.Cutting.{fieldsFrom, fields-first, fields-step, fields-past}
 use Rattle.refusals.proofs.Answering.{verdict}
 use Rattle.row_read_model.proofs.Writing.{written-missing, written-none, written-value, written-after, written-all}
@@ -38,7 +38,7 @@ zeros-read i = by (decLe (suc i) 13)
 pub record Taken (cs : List Column) (row numbers : List ℕ) (at k : ℕ) : Type 0 where
   pub few : k ≤ length cs
   pub size : length numbers ≡ 13
-  pub left : verdict (written 1 cs (fields row)) ≡ verdict (written (suc k) (drop k cs) (fieldsFrom row at))
+  pub left : verdict (columnsRead 1 cs (fields row)) ≡ verdict (columnsRead (suc k) (drop k cs) (fieldsFrom row at))
   pub values : take k numbers ++ map spelled (fieldsFrom row at) ≡ valuesIn row
   pub rest : (i : ℕ) → k ≤ i → getD numbers i 0 ≡ 0
 
@@ -54,12 +54,12 @@ taken-none cs row numbers l z = record {
 
 module _ (cs : List Column) (thirteen : length cs ≤ 13) (row numbers : List ℕ) (at k : ℕ) (t : Taken cs row numbers at k) where
   -- the row has ended
-  pub taken-missing : k < length cs → length row < at → verdict (written 1 cs (fields row)) ≡ Broken (Unreadable (k + 1))
+  pub taken-missing : k < length cs → length row < at → verdict (columnsRead 1 cs (fields row)) ≡ Broken (Unreadable (k + 1))
   taken-missing h p = rw (t .left, fields-past row at p, add-one k) (written-missing cs k h)
 
   module _ (h : k < length cs) (p : at ≤ length row) (end : ℕ) (e : end ≡ at + indexOf 32 (drop at row)) where
     -- the next value cannot be read
-    pub taken-unreadable : numberIn (take (end - at) (drop at row)) ≡ None → verdict (written 1 cs (fields row)) ≡ Broken (Unreadable (k + 1))
+    pub taken-unreadable : numberIn (take (end - at) (drop at row)) ≡ None → verdict (columnsRead 1 cs (fields row)) ≡ Broken (Unreadable (k + 1))
     taken-unreadable n = rw (t .left, fields-step row at end p e, add-one k) (written-none cs k h _ _ n)
 
     -- the next value is read
@@ -67,7 +67,7 @@ module _ (cs : List Column) (thirteen : length cs ≤ 13) (row numbers : List �
     taken-value v n = record {
       few = omega arith;
       size = length-set numbers k v ∙ t .size;
-      left = rw (add-one k) (t .left ∙ ap (λ (fs : List (List ℕ)). verdict (written (suc k) (drop k cs) fs)) (fields-step row at end p e) ∙ written-value cs k h _ _ v n);
+      left = rw (add-one k) (t .left ∙ ap (λ (fs : List (List ℕ)). verdict (columnsRead (suc k) (drop k cs) fs)) (fields-step row at end p e) ∙ written-value cs k h _ _ v n);
       values =
           let w = t .values in
           let w′ = rw (fields-step row at end p e, sym (number-read _ v n .1)) at w in
@@ -76,7 +76,7 @@ module _ (cs : List Column) (thirteen : length cs ≤ 13) (row numbers : List �
     }
 
   -- text follows the last value
-  pub taken-after : k ≡ length cs → at ≤ length row → verdict (written 1 cs (fields row)) ≡ Broken (TextAfter (length cs + 1))
+  pub taken-after : k ≡ length cs → at ≤ length row → verdict (columnsRead 1 cs (fields row)) ≡ Broken (TextAfter (length cs + 1))
   taken-after z p =
       let e = t .left in
       let e′ = rw (z, fields-step row at (at + indexOf 32 (drop at row)) p refl) at e in
@@ -84,7 +84,7 @@ module _ (cs : List Column) (thirteen : length cs ≤ 13) (row numbers : List �
 
   -- the row ends with its last value
   module _ (z : k ≡ length cs) (p : length row < at) where
-    pub taken-all : verdict (written 1 cs (fields row)) ≡ Kept
+    pub taken-all : verdict (columnsRead 1 cs (fields row)) ≡ Kept
     taken-all =
         let e = t .left in
         let e′ = rw (z, fields-past row at p) at e in

@@ -16,15 +16,15 @@ use Rattle.refusals.specs.declared.Refusal.{Refusal}
 use Rattle.refusals.specs.declared.Refusal.the-variants.{Unreadable}
 use Rattle.refusals.specs.Conditions.{Condition, firstBroken}
 use Rattle.refusals.proofs.Answering.{first-append}
-use Rattle.settings_model.specs.Columns.{Column, twelve, table}
+use Rattle.settings_model.specs.Columns.{Column, twelve, everyColumn}
 use Rattle.row_read_model.specs.declared.Heading.the-variants.{Twelve, Thirteen}
 use Rattle.row_read_model.specs.declared.Row.the-variants.{Read, Refused}
 use Rattle.row_read_model.specs.Names.{nameLine, headingOf, isOther, columnsUnder}
-use Rattle.row_read_model.specs.Rows.{named, written, valuesIn, settingsOf, conditions, rowUnder}
+use Rattle.row_read_model.specs.Rows.{headed, columnsRead, valuesIn, settingsOf, conditions, rowUnder}
 use Rattle.row_read_model.specs.Laws.{withZero, SameWithoutLoss}
 use Rattle.row_read_model.proofs.Taking.{same-settings}
 
--- 0 as it is written
+-- 0 as it is columnsRead
 abbrev naught : List ℕ
 naught = 48 ∷ []
 
@@ -35,8 +35,8 @@ fields-with-zero row = one-value-more row naught refl
 
 -- its column's condition is not broken
 written-more : {A : Type 0} (f : Refusal → A) (a : A) (k : ℕ) (cs : List Column) (c : Column) (fs : List (List ℕ)) → length fs ≡ length cs
-    → firstBroken f a (written k (cs ++ c ∷ []) (fs ++ naught ∷ [])) ≡ firstBroken f a (written k cs fs)
-unfolding written firstBroken readable digits zeroLed shaped
+    → firstBroken f a (columnsRead k (cs ++ c ∷ []) (fs ++ naught ∷ [])) ≡ firstBroken f a (columnsRead k cs fs)
+unfolding columnsRead firstBroken readable digits zeroLed shaped
 written-more f a k [] c [] e = refl
 written-more f a k [] c (g ∷ gs) e = absurd (omega (arith, e))
 written-more f a k (d ∷ ds) c [] e = absurd (omega (arith, e))
@@ -44,13 +44,13 @@ written-more f a k (d ∷ ds) c (g ∷ gs) e = ap (cond (not (readable g)) (f (U
 
 -- so number 2 of both rows comes to the same, whatever conditions follow
 pub written-without-loss : {A : Type 0} (f : Refusal → A) (a : A) (row : List ℕ) (ys : List (Condition Refusal)) → length (fields row) ≡ 12
-    → firstBroken f a (written 1 table (fields (withZero row)) ++ ys) ≡ firstBroken f a (written 1 twelve (fields row) ++ ys)
-unfolding table twelve
+    → firstBroken f a (columnsRead 1 everyColumn (fields (withZero row)) ++ ys) ≡ firstBroken f a (columnsRead 1 twelve (fields row) ++ ys)
+unfolding everyColumn twelve
 written-without-loss f a row ys e =
-    first-append f a (written 1 table (fields (withZero row))) ys
-    ∙ ap (λ (fs : List (List ℕ)). firstBroken f (firstBroken f a ys) (written 1 table fs)) (fields-with-zero row)
+    first-append f a (columnsRead 1 everyColumn (fields (withZero row))) ys
+    ∙ ap (λ (fs : List (List ℕ)). firstBroken f (firstBroken f a ys) (columnsRead 1 everyColumn fs)) (fields-with-zero row)
     ∙ written-more f (firstBroken f a ys) 1 twelve _ (fields row) e
-    ∙ sym (first-append f a (written 1 twelve (fields row)) ys)
+    ∙ sym (first-append f a (columnsRead 1 twelve (fields row)) ys)
 
 -- and their settings are the same
 values-with-zero : (row : List ℕ) → valuesIn (withZero row) ≡ valuesIn row ++ 0 ∷ []
@@ -78,16 +78,16 @@ settings-without-loss row e = same-settings (valuesIn (withZero row)) (valuesIn 
 
 -- each line of names is the one that it is
 pub names-of-twelve : headingOf (nameLine twelve) ≡ Twelve
-unfolding headingOf nameLine joined twelve table ascii same
+unfolding headingOf nameLine joined twelve everyColumn ascii same
 names-of-twelve = refl
 
-pub names-of-thirteen : headingOf (nameLine table) ≡ Thirteen
-unfolding headingOf nameLine joined twelve table ascii same
+pub names-of-thirteen : headingOf (nameLine everyColumn) ≡ Thirteen
+unfolding headingOf nameLine joined twelve everyColumn ascii same
 names-of-thirteen = refl
 
 pub same-without-loss : SameWithoutLoss
-unfolding rowUnder conditions named isOther columnsUnder firstBroken
+unfolding rowUnder conditions headed isOther columnsUnder firstBroken
 same-without-loss row e =
     rw (settings-without-loss row e)
-    (rw (append-nil (written 1 table (fields (withZero row))), append-nil (written 1 twelve (fields row))) at
+    (rw (append-nil (columnsRead 1 everyColumn (fields (withZero row))), append-nil (columnsRead 1 twelve (fields row))) at
     (written-without-loss Refused (Read (settingsOf (valuesIn row))) row [] e))

@@ -1,11 +1,11 @@
--- Document 01's examples of refusals 1 and 2, with document 02's E5, and cases at their edges, computed in one table. Assumes nothing.
+-- Document 01's examples of refusals 1 and 2, with document 02's E5, and cases at their edges, computed in one everyColumn. Assumes nothing.
 use mathlib.Core.Path.{_≡_}
 use mathlib.Core.List.{List, [], _∷_, _++_}
 use Prim.Native.Nat.{ℕ}
 use Prim.Native.String.{String}
 use Rattle.decimal_model.specs.Ascii.{ascii}
 use Rattle.refusals.specs.Refusals.{numberOf, placeOf}
-use Rattle.settings_model.specs.Columns.{twelve, table}
+use Rattle.settings_model.specs.Columns.{twelve, everyColumn}
 use Rattle.row_read_model.specs.declared.Heading.the-variants.{Twelve, Thirteen}
 use Rattle.row_read_model.specs.declared.Row.{Row}
 use Rattle.row_read_model.specs.declared.Row.the-variants.{Read, Refused}
@@ -42,9 +42,9 @@ of number place = number ∷ place ∷ []
 pub record Examples : Type 0 where
   -- the names come first
   pub names : nameLine twelve ≡ ascii "BO SO H NR NE OWN SINK BURST RATE HEAD DATA ACK"
-  pub lossyNames : nameLine table ≡ ascii "BO SO H NR NE OWN SINK BURST RATE HEAD DATA ACK LOSS"
+  pub lossyNames : nameLine everyColumn ≡ ascii "BO SO H NR NE OWN SINK BURST RATE HEAD DATA ACK LOSS"
   pub twelveNames : headingOf (nameLine twelve) ≡ Twelve
-  pub thirteenNames : headingOf (nameLine table) ≡ Thirteen
+  pub thirteenNames : headingOf (nameLine everyColumn) ≡ Thirteen
   pub emptyInput : under "" "8 4 1 2 1 0 0 1 1 19 7 0" ≡ of 1 0
   pub otherNames : under "BO SO H NR NE OWN SINK BURST RATE DATA HEAD ACK" "x" ≡ of 1 0
   pub spaceAfterNames : under "BO SO H NR NE OWN SINK BURST RATE HEAD DATA ACK " "8 4 1 2 1 0 0 1 1 19 7 0" ≡ of 1 0

@@ -4,7 +4,7 @@ use mathlib.Core.Bool.{Bool, true, false, cond}
 use mathlib.Core.List.{List, [], map}
 use Rattle.decimal_model.specs.Ascii.{ascii}
 use Rattle.lines.specs.Text.{same, joined}
-use Rattle.settings_model.specs.Columns.{Column, twelve, table}
+use Rattle.settings_model.specs.Columns.{Column, twelve, everyColumn}
 use Rattle.row_read_model.specs.declared.Heading.{Heading}
 use Rattle.row_read_model.specs.declared.Heading.the-variants.{Twelve, Thirteen, Other}
 
@@ -14,7 +14,7 @@ nameLine columns = joined (map (λ c. ascii (c .name)) columns)
 
 -- which line of names a line, without its LF, is: `BO SO H NR NE OWN SINK BURST RATE HEAD DATA ACK`, or the same with `LOSS` behind it
 unfoldable pub headingOf : List ℕ → Heading
-headingOf line = cond (same line (nameLine twelve)) Twelve (cond (same line (nameLine table)) Thirteen Other)
+headingOf line = cond (same line (nameLine twelve)) Twelve (cond (same line (nameLine everyColumn)) Thirteen Other)
 
 -- it is neither
 unfoldable pub isOther : Heading → Bool
@@ -25,5 +25,5 @@ isOther Other = true
 -- the columns that it names: "A name line of 12 names still stands for LOSS 0"
 unfoldable pub columnsUnder : Heading → List Column
 columnsUnder Twelve = twelve
-columnsUnder Thirteen = table
+columnsUnder Thirteen = everyColumn
 columnsUnder Other = []

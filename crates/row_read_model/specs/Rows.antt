@@ -17,16 +17,16 @@ use Rattle.row_read_model.specs.declared.Heading.{Heading}
 use Rattle.row_read_model.specs.Names.{headingOf, isOther, columnsUnder}
 
 -- number 1: "name line differs or is missing"
-unfoldable pub named : Heading → List (Condition Refusal)
-named heading = condition (isOther heading) Names ∷ []
+unfoldable pub headed : Heading → List (Condition Refusal)
+headed heading = condition (isOther heading) Names ∷ []
 
 -- number 2, for these columns, the first of which has number k, and what stands in them: "value unreadable or missing; text after
 -- the last", at the column where that text stands: 13 under 12 names; E5: "text after the 13th value has place 14"
-unfoldable pub written : ℕ → List Column → List (List ℕ) → List (Condition Refusal)
-written k [] [] = []
-written k [] (f ∷ fs) = condition true (TextAfter k) ∷ []
-written k (c ∷ cs) [] = condition true (Unreadable k) ∷ []
-written k (c ∷ cs) (f ∷ fs) = condition (not (readable f)) (Unreadable k) ∷ written (suc k) cs fs
+unfoldable pub columnsRead : ℕ → List Column → List (List ℕ) → List (Condition Refusal)
+columnsRead k [] [] = []
+columnsRead k [] (f ∷ fs) = condition true (TextAfter k) ∷ []
+columnsRead k (c ∷ cs) [] = condition true (Unreadable k) ∷ []
+columnsRead k (c ∷ cs) (f ∷ fs) = condition (not (readable f)) (Unreadable k) ∷ columnsRead (suc k) cs fs
 
 -- what the bytes between a row's spaces spell (of use where all of number 2 holds)
 unfoldable pub valuesIn : List ℕ → List ℕ
@@ -52,7 +52,7 @@ settingsOf vs = record {
 
 -- numbers 1 and 2 of a row under a line of names, without its LF, in their order
 unfoldable pub conditions : Heading → List ℕ → List (Condition Refusal)
-conditions heading row = named heading ++ written 1 (columnsUnder heading) (fields row)
+conditions heading row = headed heading ++ columnsRead 1 (columnsUnder heading) (fields row)
 
 -- its settings, which nobody has checked, or the first refusal
 unfoldable pub rowUnder : Heading → List ℕ → Row

@@ -54,7 +54,7 @@ fn depth_fits(s: Settings, end: Slots, up: &[u64; 65], down: &[u64; 65], i: u64)
         return verdict;
     }
     if i < s.sink {
-        return within(l, on_path_slots(s, end, up, down, i), i);
+        return fits_at(l, on_path_slots(s, end, up, down, i), i);
     }
     Verdict::Kept
 }
@@ -67,13 +67,13 @@ fn off_path_fits(s: Settings, l: Slots, used: Slots, i: u64) -> Verdict
     ensures { λ r. ⌜ r ≡ firstBroken Broken Kept (offPathAt s i ∷ []) ⌝ }
 {
     if has_off_path(s, i) {
-        return within(l, used, i);
+        return fits_at(l, used, i);
     }
     Verdict::Kept
 }
 
 // Whether the slots used at depth i exceed L.
-fn within(l: Slots, used: Slots, i: u64) -> Verdict
+fn fits_at(l: Slots, used: Slots, i: u64) -> Verdict
     requires { ⌜ i ≤ 12 ⌝ }
     ensures { λ r. ⌜ r ≡ firstBroken Broken Kept (condition (ltb (l .0) (used .0)) (SlotsUsed i used l) ∷ []) ⌝ }
 {

@@ -11,7 +11,7 @@ use Rattle.refusals.specs.Conditions.{Unbroken}
 use Rattle.settings_model.specs.declared.Settings.{Settings}
 use Rattle.refusals.proofs.Unbroken.{unbroken-append, unbroken-left, unbroken-right}
 use Rattle.settings_model.specs.declared.Radio.{Radio}
-use Rattle.settings_model.specs.Columns.{twelve, table, columnAt}
+use Rattle.settings_model.specs.Columns.{twelve, everyColumn, columnAt}
 use Rattle.settings_model.specs.Checks.{radioOf, ranged, valuesOf, radioRanged, ordersAtOdds, shapeAtOdds, frameAtOdds, atOdds, radioAtOdds, radioChecks}
 use Rattle.settings_model.specs.Laws.{CheckedRadio, Checked}
 
@@ -101,7 +101,7 @@ module _ (b : Radio) where
 
   -- no condition is broken where they are checked, and the other way round
   pub unbroken-radio : Unbroken (radioChecks b) → CheckedRadio b
-  unfolding twelve table columnAt ranged radioRanged radioAtOdds radioChecks
+  unfolding twelve everyColumn columnAt ranged radioRanged radioAtOdds radioChecks
   unbroken-radio u =
       let r = unbroken-left (radioRanged b) (radioAtOdds b) u in
       let o = unbroken-right (radioRanged b) (radioAtOdds b) u in
@@ -121,7 +121,7 @@ module _ (b : Radio) where
       }
 
   pub radio-unbroken : CheckedRadio b → Unbroken (radioChecks b)
-  unfolding twelve table columnAt ranged radioRanged radioAtOdds radioChecks
+  unfolding twelve everyColumn columnAt ranged radioRanged radioAtOdds radioChecks
   radio-unbroken k =
       unbroken-append (radioRanged b) (radioAtOdds b)
       (unbroken-append (ranged 0 orderValues) (ranged 9 frameValues)
@@ -170,7 +170,7 @@ module _ (s : Settings) where
 
   -- settings of which no condition is broken are checked, and the other way round
   pub unbroken-checked : Unbroken (ranged 0 (valuesOf s)) → Unbroken (atOdds s) → Checked s
-  unfolding twelve table columnAt ranged valuesOf atOdds
+  unfolding twelve everyColumn columnAt ranged valuesOf atOdds
   unbroken-checked r o =
       let front = unbroken-left (ordersAtOdds (radioOf s) ++ shapeAtOdds s) (frameAtOdds (radioOf s)) o in
       let g = shape-agreed (unbroken-right (ordersAtOdds (radioOf s)) (shapeAtOdds s) front) in
@@ -202,7 +202,7 @@ module _ (s : Settings) where
       }
 
   pub checked-ranged : Checked s → Unbroken (ranged 0 (valuesOf s))
-  unfolding twelve table columnAt ranged valuesOf
+  unfolding twelve everyColumn columnAt ranged valuesOf
   checked-ranged k = (
     range-in 0 14 (s .bo) (omega arith) (k .radio .bo),
     (

@@ -6,11 +6,11 @@ use native.Mathlib.Omega.{arith}
 use native.Mathlib.Decide.{decLe}
 use lib.Dec.{leb}
 use borrow.Author.Tests.{le-leb, lt-leb}
-use Rattle.settings_model.specs.Columns.{twelve, table, columnAt, inRange}
+use Rattle.settings_model.specs.Columns.{twelve, everyColumn, columnAt, inRange}
 
 -- the lowest value of the first seven columns
 pub lowest-first : (k : ℕ) → k < 7 → 0 ≡ columnAt k .lowest
-unfolding twelve table columnAt
+unfolding twelve everyColumn columnAt
 lowest-first zero h = refl
 lowest-first (suc zero) h = refl
 lowest-first (suc (suc zero)) h = refl
@@ -22,7 +22,7 @@ lowest-first (suc (suc (suc (suc (suc (suc (suc k))))))) h = absurd (omega arith
 
 -- and of the last two
 pub lowest-last : (k : ℕ) → 11 ≤ k → k < 13 → 0 ≡ columnAt k .lowest
-unfolding twelve table columnAt
+unfolding twelve everyColumn columnAt
 lowest-last k low high = elim (decLe k 11) [
   | yes l ↦ let z : k ≡ 11 = omega arith in rw z refl
   | no f ↦ let z : k ≡ 12 = omega arith in rw z refl

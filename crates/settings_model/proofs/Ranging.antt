@@ -9,17 +9,17 @@ use Rattle.refusals.specs.declared.Refusal.the-variants.{OutOfRange}
 use Rattle.refusals.specs.declared.Verdict.the-variants.{Kept, Broken}
 use Rattle.refusals.specs.Conditions.{condition, firstBroken}
 use Rattle.refusals.proofs.Answering.{verdict}
-use Rattle.settings_model.specs.Columns.{column, twelve, table, columnAt, inRange}
+use Rattle.settings_model.specs.Columns.{column, twelve, everyColumn, columnAt, inRange}
 use Rattle.settings_model.specs.Checks.{ranged}
 
-pub table-length : length table ≡ 13
-unfolding twelve table
+pub table-length : length everyColumn ≡ 13
+unfolding twelve everyColumn
 table-length = refl
 
 -- the columns behind the first k
-pub table-step : (k : ℕ) → k < 13 → drop k table ≡ columnAt k ∷ drop (suc k) table
+pub table-step : (k : ℕ) → k < 13 → drop k everyColumn ≡ columnAt k ∷ drop (suc k) everyColumn
 unfolding columnAt
-table-step k h = drop-cons table k (column "" 0 0) (rw table-length h)
+table-step k h = drop-cons everyColumn k (column "" 0 0) (rw table-length h)
 
 -- a value in its column's range, and one outside: value i of some whose first stands behind the first k columns
 module _ (k i : ℕ) (vs : List ℕ) (h : i < length vs) where

@@ -34,12 +34,12 @@ twelve =
     ∷ []
 
 -- E5: "A 13th column LOSS, 0 to 7"
-unfoldable pub table : List Column
-table = twelve ++ column "LOSS" 0 7 ∷ []
+unfoldable pub everyColumn : List Column
+everyColumn = twelve ++ column "LOSS" 0 7 ∷ []
 
 -- the column behind the first k
 unfoldable pub columnAt : ℕ → Column
-columnAt k = getD table k (column "" 0 0)
+columnAt k = getD everyColumn k (column "" 0 0)
 
 -- a value is in the column's range
 abbrev pub inRange : Column → ℕ → Bool

@@ -10,7 +10,7 @@ ghost use lib.Seq.{sets};
 ghost use Rattle.settings_model.specs.Checks.{radio};
 ghost use Rattle.calls_model.specs.Calls.{left};
 ghost use Rattle.calls_model.specs.Reasons.{ReadAgain};
-ghost use Rattle.tree_calls_model.specs.Entries.{planTree, checkTree, treeSpoken, explainTree};
+ghost use Rattle.tree_calls_model.specs.Entries.{planTree, checkTree, treeVerdictLine, explainTree};
 ghost use Rattle.tree_calls_model.specs.Promise.{PromisedTree};
 use buffer::put_bytes;
 use calls::answer_of;
@@ -96,9 +96,9 @@ pub fn explain_tree(
 
 // Puts the line of a tree that was refused, or that it is planned, and answers its length.
 fn put_tree_verdict(out: &mut [u8], verdict: Verdict) -> usize
-    ensures { λ r. ⌜ r ≡ length (treeSpoken verdict) ⌝ }
+    ensures { λ r. ⌜ r ≡ length (treeVerdictLine verdict) ⌝ }
     ensures { λ r. ⌜ r ≤ 160 ⌝ }
-    ensures { λ _. ⌜ now (out .exit) ≡ sets (now (out .entry)) 0 (treeSpoken verdict) ⌝ }
+    ensures { λ _. ⌜ now (out .exit) ≡ sets (now (out .entry)) 0 (treeVerdictLine verdict) ⌝ }
 {
     if let Verdict::Broken(refusal) = verdict {
         return put_reason(out, refusal);

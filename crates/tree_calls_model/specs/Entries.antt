@@ -13,7 +13,7 @@ use Rattle.report_model.specs.TreeText.{treeText}
 use Rattle.reason_model.specs.Reasons.{reason}
 use Rattle.plan_model.specs.Plans.{answer}
 use Rattle.calls_model.specs.declared.Answer.{Answer}
-use Rattle.calls_model.specs.Calls.{told, Left, leaves}
+use Rattle.calls_model.specs.Calls.{answerTo, Left, leaves}
 use Rattle.calls_model.specs.Reasons.{lineLeft}
 
 -- the entry that writes: from the text's and the lent buffer's bytes to the answer and the buffer's bytes. Number 10, then 3 to 7, then 8.
@@ -22,14 +22,14 @@ planTree nodes b sink before = leaves treeText (lines b (treeIn nodes) sink) (su
 
 -- the entry that writes nothing: 10 and 3 to 7
 unfoldable pub checkTree : List ℕ → Radio → ℕ → Answer
-checkTree nodes b sink = told treeText (outcomeIn nodes b sink)
+checkTree nodes b sink = answerTo treeText (outcomeIn nodes b sink)
 
 -- the line of a tree that is refused, or planned
-unfoldable pub treeSpoken : Verdict → List ℕ
-treeSpoken Kept = ascii "The tree is planned."
-treeSpoken (Broken r) = reason r
+unfoldable pub treeVerdictLine : Verdict → List ℕ
+treeVerdictLine Kept = ascii "The tree is planned."
+treeVerdictLine (Broken r) = reason r
 
 -- the entry that puts this line: it answers number and place of the refusal, 0 and 0 where the tree is planned
 unfoldable pub explainTree : List ℕ → Radio → ℕ → List ℕ → Left
 explainTree nodes b sink before =
-    lineLeft (checkTree nodes b sink .number) (checkTree nodes b sink .place) (treeSpoken (answer treeText (outcomeIn nodes b sink) .verdict)) before
+    lineLeft (checkTree nodes b sink .number) (checkTree nodes b sink .place) (treeVerdictLine (answer treeText (outcomeIn nodes b sink) .verdict)) before

@@ -17,7 +17,7 @@ use Rattle.plan_model.specs.declared.Kind.{Kind}
 use Rattle.plan_model.specs.declared.Kind.the-variants.{EndNode, Upward, Downward, Sink}
 use Rattle.plan_model.specs.declared.NodeLine.{NodeLine}
 use Rattle.tree_model.specs.Tree.{isRouter}
-use Rattle.tree_model.specs.Ways.{next, below, kindOf, depthOf}
+use Rattle.tree_model.specs.Ways.{next, childTowards, kindOf, depthOf}
 use Rattle.tree_model.proofs.WayLaws.{leads-down}
 use Rattle.tree_plan_model.specs.Inner.{shape, loadIn, towardsIn}
 use Rattle.tree_plan_model.specs.Tables.{Led, linkFor, sinkFor, figuresFor, wayIn, routeIn, lineIn}
@@ -53,7 +53,7 @@ module _ (ps ns : List ℕ) (sink : ℕ) (L : Led ps ns sink) (v : ℕ) (one : 1
   kind-sink e = rw (eq-eqb v sink e)
 
   module _ (m : v ≡ sink → ⊥) where
-    down-test : ltb v (towardsIn ns v) ≡ leb 1 (below (shape ps) sink v)
+    down-test : ltb v (towardsIn ns v) ≡ leb 1 (childTowards (shape ps) sink v)
     down-test =
         let e : towardsIn ns v ≡ next (shape ps) sink v = L .led v one most in
         rw e (leads-down (shape ps) (L .planted) sink (L .sinkSome) (omega (arith, L .sinkKnown)) (L .withoutGaps sink (omega (arith, L .sinkKnown))) v one (omega (arith, most)) m)

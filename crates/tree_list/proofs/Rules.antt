@@ -5,9 +5,9 @@ use Prim.Native.Nat.{ℕ, _≤_, _<_}
 use native.Mathlib.Omega.{arith}
 use lib.Dec.{eqb, leb, ltb}
 use borrow.Author.Tests.{eq-eqb, ne-eqb, lt-ltb, le-ltb, le-leb, lt-leb}
-use Rattle.settings_model.specs.Columns.{twelve, table, columnAt}
+use Rattle.settings_model.specs.Columns.{twelve, everyColumn, columnAt}
 use Rattle.tree_read_model.specs.declared.Entry.{Entry}
-use Rattle.tree_read_model.specs.declared.Reading.the-variants.{Node}
+use Rattle.tree_read_model.specs.declared.NodeRead.the-variants.{Node}
 use Rattle.tree_read_model.specs.Entries.{parentRight, sensorRight, entryRight}
 
 -- ---- the parent
@@ -31,7 +31,7 @@ sensor-test : ℕ → ℕ → Bool
 sensor-test b r = (eqb b 0 && eqb r 0) || ((leb 1 b && leb b 255) && (leb 1 r && leb r 4095))
 
 sensor-tested : (b r : ℕ) → sensor-test b r ≡ sensorRight b r
-unfolding sensor-test sensorRight columnAt twelve table
+unfolding sensor-test sensorRight columnAt twelve everyColumn
 sensor-tested b r = refl
 
 pub sensor-silent : (b r : ℕ) → b ≡ 0 → eqb r 0 ≡ sensorRight b r

@@ -8,7 +8,7 @@ use native.Mathlib.Omega.{arith}
 use lib.ListN.{set}
 use Rattle.refusals.specs.declared.Verdict.the-variants.{Kept}
 use Rattle.tree_read_model.specs.declared.Entry.{Entry}
-use Rattle.tree_read_model.specs.declared.Reading.the-variants.{Node, Unreadable}
+use Rattle.tree_read_model.specs.declared.NodeRead.the-variants.{Node, Unreadable}
 use Rattle.tree_read_model.specs.Entries.{entryIn, entryRight, lineRight}
 use Rattle.tree_read_model.specs.Survey.{parentIn, burstIn, rateIn}
 use Rattle.tree_read_model.proofs.Listed.{Says, says, parent-root, parent-below, sensor-is}

@@ -2,7 +2,7 @@
 // but for the sink. What is required here `read_list` meets.
 ghost use mathlib.Core.Path.{_≡_};
 ghost use Rattle.tree_read_model.specs.Entries.{parentRight, sensorRight, entryRight};
-ghost use Rattle.tree_read_model.specs.declared.Reading.the-variants.{Node};
+ghost use Rattle.tree_read_model.specs.declared.NodeRead.the-variants.{Node};
 ghost use Rattle.tree_plan_model.specs.Lists.{Space, Front, TakenNode, linesBehind, ReadFrom, ReadList, listEnd, brokenBy};
 use lines::Cursor;
 use lines::Line;
@@ -15,7 +15,7 @@ use tree_plan_model::Count;
 use tree_read::fields::read_node;
 use tree_read::names_match;
 use tree_read_model::Entry;
-use tree_read_model::Reading;
+use tree_read_model::NodeRead;
 
 // No list has more nodes.
 const MOST_NODES: usize = 254;
@@ -82,7 +82,7 @@ fn take_node(
         (now (parents .exit)) (now (bursts .exit)) (now (rates .exit)) ⌝ }
 {
     let reading = read_node(line);
-    let Reading::Node(entry) = reading else {
+    let NodeRead::Node(entry) = reading else {
         return false;
     };
     if entry_right(k, entry) {

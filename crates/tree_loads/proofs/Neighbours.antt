@@ -12,7 +12,7 @@ use lib.ListN.{length, getD}
 use borrow.Author.Tests.{eq-eqb, ne-eqb}
 use Rattle.links.specs.declared.Load.{Load}
 use Rattle.links.specs.declared.Timing.{Timing}
-use Rattle.tree_model.specs.Tree.{Tree, treeOf, feeds, Planted, Facing}
+use Rattle.tree_model.specs.Tree.{Tree, treeOf, otherNeighbour, Rooted, Facing}
 use Rattle.tree_model.specs.Loads.{sensed, outputOf}
 use Rattle.links.specs.Link.{plus}
 use Rattle.tree_model.proofs.Steps as steps
@@ -23,7 +23,7 @@ use Rattle.tree_plan_model.specs.Children.{Least, Beside, Nearest}
 
 -- ---- the nearest neighbour
 
-module _ (ps : List ℕ) (p : Planted (shape ps)) (v : ℕ) (one : 1 ≤ v) (h : v < length ps) where
+module _ (ps : List ℕ) (p : Rooted (shape ps)) (v : ℕ) (one : 1 ≤ v) (h : v < length ps) where
   own : getD ps v 0 < v
   own = p .smaller v one (omega arith)
 
@@ -76,7 +76,7 @@ module _ (ps : List ℕ) (p : Planted (shape ps)) (v : ℕ) (one : 1 ≤ v) (h :
       side : (u : ℕ) → k < u → Beside ps v u → getD ps u 0 ≡ v
       side u a s = ⊎-elim (λ x. x) (λ x. absurd (not-parent u a x (ℕ-discrete k 0))) s
 
--- ---- what lies between a neighbour and the next feeds nothing
+-- ---- what lies between a neighbour and the next otherNeighbour nothing
 
 -- up to just before w; to the end where w is 0
 abbrev pub before : ℕ → ℕ → ℕ
@@ -87,19 +87,19 @@ module _ (ps bs rs : List ℕ) (v from : ℕ) where
   abbrev T : Tree
   T = treeOf ps bs rs
 
-  between : (k c : ℕ) → Nearest ps v k c → (u : ℕ) → k < u → u ≤ before (T .nodes) c → u < length ps → feeds T v from u ≡ false
-  between k c m u a l q = by (feeds T v from u) refl
+  between : (k c : ℕ) → Nearest ps v k c → (u : ℕ) → k < u → u ≤ before (T .nodes) c → u < length ps → otherNeighbour T v from u ≡ false
+  between k c m u a l q = by (otherNeighbour T v from u) refl
     where
       no-such : Beside ps v u → (c : ℕ) → 1 ≤ c → c ≤ u → u ≤ before (T .nodes) c → ⊥
       no-such s zero x y z = omega arith
       no-such s (suc c) x y z = omega arith
 
-      by : (b : Bool) → feeds T v from u ≡ b → b ≡ false
+      by : (b : Bool) → otherNeighbour T v from u ≡ b → b ≡ false
       by true e = let s = steps.next T v from u e .side in absurd (no-such s c (m .some u a q s) (m .least u a q s) l)
       by false e = refl
 
-  -- a neighbour other than the one at `from` feeds, that one does not
-  pub feeding : (w : ℕ) → Beside ps v w → (w ≡ from → ⊥) → feeds T v from w ≡ true
+  -- a neighbour other than the one at `from` otherNeighbour, that one does not
+  pub feeding : (w : ℕ) → Beside ps v w → (w ≡ from → ⊥) → otherNeighbour T v from w ≡ true
   feeding w s n = rw (ne-eqb w from n) (⊎-elim (λ x. rw (eq-eqb (getD ps w 0) v x)) (λ x. or-true x) s)
     where
       or-true : getD ps v 0 ≡ w → (eqb (getD ps w 0) v || eqb (getD ps v 0) w) ≡ true
@@ -109,7 +109,7 @@ module _ (ps bs rs : List ℕ) (v from : ℕ) where
           right true = refl
           right false = refl
 
-  pub not-feeding : (w : ℕ) → w ≡ from → feeds T v from w ≡ false
+  pub not-feeding : (w : ℕ) → w ≡ from → otherNeighbour T v from w ≡ false
   not-feeding w e = rw (eq-eqb w from e)
 
 -- the sum and the notes after the neighbours up to w
@@ -135,7 +135,7 @@ left-falls ps v zero c m one h = absurd (omega arith)
 left-falls ps v (suc k) zero m one h = omega arith
 left-falls ps v (suc k) (suc c) m one h = omega (arith, m .behind (omega arith), m .known (omega arith))
 
-module _ (ps bs rs : List ℕ) (v from : ℕ) (a : Timing) (p : Planted (treeOf ps bs rs)) (f : Facing (treeOf ps bs rs) v from) (ns : List ℕ) where
+module _ (ps bs rs : List ℕ) (v from : ℕ) (a : Timing) (p : Rooted (treeOf ps bs rs)) (f : Facing (treeOf ps bs rs) v from) (ns : List ℕ) where
   abbrev To : Load → List ℕ → ℕ → Type 0
   To total ns' w = Upto a (treeOf ps bs rs) v from ns total ns' w
 
@@ -143,10 +143,10 @@ module _ (ps bs rs : List ℕ) (v from : ℕ) (a : Timing) (p : Planted (treeOf 
   upto-none total e = record { sum = e ∙ none-yet a (treeOf ps bs rs) v from; noted = noted-none a (treeOf ps bs rs) p v from f ns }
 
   module _ (total : Load) (ns' : List ℕ) where
-    step : (w : ℕ) → feeds (treeOf ps bs rs) v from (w + 1) ≡ false → To total ns' w → To total ns' (w + 1)
+    step : (w : ℕ) → otherNeighbour (treeOf ps bs rs) v from (w + 1) ≡ false → To total ns' w → To total ns' (w + 1)
     step w e r = record { sum = same a (treeOf ps bs rs) v from w total (r .sum) e; noted = noted-same a (treeOf ps bs rs) p v from f ns w ns' e (r .noted) }
 
-    skip : (d k : ℕ) → ((u : ℕ) → k < u → u ≤ k + d → feeds (treeOf ps bs rs) v from u ≡ false) → To total ns' k → To total ns' (k + d)
+    skip : (d k : ℕ) → ((u : ℕ) → k < u → u ≤ k + d → otherNeighbour (treeOf ps bs rs) v from u ≡ false) → To total ns' k → To total ns' (k + d)
     skip zero k nay r = let e : k + 0 ≡ k = omega arith in rw e r
     skip (suc d) k nay r =
         let e : k + suc d ≡ (k + 1) + d = omega arith in
@@ -169,16 +169,16 @@ module _ (ps bs rs : List ℕ) (v from : ℕ) (a : Timing) (p : Planted (treeOf 
         most (suc c) m = omega (arith, m .known (omega arith))
 
     -- over the neighbour at `from`
-    pub not-fed : (u : ℕ) → 1 ≤ u → feeds (treeOf ps bs rs) v from u ≡ false → To total ns' (before (length ps - 1) u) → To total ns' u
+    pub not-fed : (u : ℕ) → 1 ≤ u → otherNeighbour (treeOf ps bs rs) v from u ≡ false → To total ns' (before (length ps - 1) u) → To total ns' u
     not-fed zero one e r = absurd (omega arith)
     not-fed (suc c) one e r = rw (add-one c) at (step c (rw (add-one c) e) r)
 
     -- over another neighbour
-    pub fed : (u : ℕ) (o : Load) (ns2 : List ℕ) → 1 ≤ u → u ≤ length ps - 1 → feeds (treeOf ps bs rs) v from u ≡ true → To total ns' (before (length ps - 1) u)
+    pub fed : (u : ℕ) (o : Load) (ns2 : List ℕ) → 1 ≤ u → u ≤ length ps - 1 → otherNeighbour (treeOf ps bs rs) v from u ≡ true → To total ns' (before (length ps - 1) u)
         → o ≡ outputOf a (treeOf ps bs rs) u v → Noted a (treeOf ps bs rs) u v ns' ns2 → To (plus total o) ns2 u
     fed zero o ns2 one l e r eo n = absurd (omega arith)
     fed (suc c) o ns2 one l e r eo n =
         rw (add-one c) at (on (rw (add-one c) l) (rw (add-one c) e) (rw (add-one c) eo) (rw (add-one c) n))
       where
-        on : c + 1 ≤ length ps - 1 → feeds (treeOf ps bs rs) v from (c + 1) ≡ true → o ≡ outputOf a (treeOf ps bs rs) (c + 1) v → Noted a (treeOf ps bs rs) (c + 1) v ns' ns2 → To (plus total o) ns2 (c + 1)
+        on : c + 1 ≤ length ps - 1 → otherNeighbour (treeOf ps bs rs) v from (c + 1) ≡ true → o ≡ outputOf a (treeOf ps bs rs) (c + 1) v → Noted a (treeOf ps bs rs) (c + 1) v ns' ns2 → To (plus total o) ns2 (c + 1)
         on l e eo n = record { sum = more a (treeOf ps bs rs) v from c total o (r .sum) e eo; noted = noted-more a (treeOf ps bs rs) p v from f ns c ns' ns2 l e (r .noted) n }

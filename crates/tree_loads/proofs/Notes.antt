@@ -10,7 +10,7 @@ use lib.Seq.{getD-set-same, getD-set-other}
 use borrow.Author.Tests.{lt-ltb}
 use Rattle.links.specs.declared.Load.{Load}
 use Rattle.links.specs.declared.Timing.{Timing}
-use Rattle.tree_model.specs.Tree.{Tree, feeds, Planted, Facing, WithoutGaps}
+use Rattle.tree_model.specs.Tree.{Tree, otherNeighbour, Rooted, Facing, WithoutGaps}
 use Rattle.tree_model.specs.Loads.{inputOf}
 use Rattle.tree_model.specs.Ways.{Beyond, here, there}
 use Rattle.tree_plan_model.specs.Inner.{loadIn, towardsIn, noteSet, Right, Seen, Noted, AllRight}
@@ -63,34 +63,34 @@ module _ (ns : List ℕ) (size : length ns ≡ 768) (v : ℕ) (h : v < 256) (l :
 -- the same for the neighbours up to w
 pub record NotedTo (a : Timing) (t : Tree) (v from : ℕ) (ns : List ℕ) (w : ℕ) (ns' : List ℕ) : Type 0 where
   pub kept : (s u : ℕ) → u ≤ t .nodes → Seen t v from s → Right a t s ns u → Right a t s ns' u
-  pub beyond : (s u x : ℕ) → u ≤ t .nodes → Seen t v from s → 1 ≤ x → x ≤ w → feeds t v from x ≡ true → Beyond t s x u → Right a t s ns' u
+  pub beyond : (s u x : ℕ) → u ≤ t .nodes → Seen t v from s → 1 ≤ x → x ≤ w → otherNeighbour t v from x ≡ true → Beyond t s x u → Right a t s ns' u
 
-module _ (a : Timing) (t : Tree) (p : Planted t) (v from : ℕ) (f : Facing t v from) (ns : List ℕ) where
+module _ (a : Timing) (t : Tree) (p : Rooted t) (v from : ℕ) (f : Facing t v from) (ns : List ℕ) where
   pub noted-none : NotedTo a t v from ns 0 ns
   noted-none = record { kept = λ s u k z r. r; beyond = λ s u x k z a b e r. absurd (omega arith) }
 
-  sink-on : (w s : ℕ) → 1 ≤ w → w ≤ t .nodes → feeds t v from w ≡ true → Seen t v from s → Seen t w v s
+  sink-on : (w s : ℕ) → 1 ≤ w → w ≤ t .nodes → otherNeighbour t v from w ≡ true → Seen t v from s → Seen t w v s
   sink-on w s a b h z =
       record { node = z .node; known = z .known; towards = next-step t p s (z .node) (z .known) v w (f .node) (f .known) a b (rw (z .towards) h) }
 
-  pub noted-more : (w : ℕ) (ns1 ns2 : List ℕ) → w + 1 ≤ t .nodes → feeds t v from (w + 1) ≡ true → NotedTo a t v from ns w ns1 → Noted a t (w + 1) v ns1 ns2 → NotedTo a t v from ns (w + 1) ns2
+  pub noted-more : (w : ℕ) (ns1 ns2 : List ℕ) → w + 1 ≤ t .nodes → otherNeighbour t v from (w + 1) ≡ true → NotedTo a t v from ns w ns1 → Noted a t (w + 1) v ns1 ns2 → NotedTo a t v from ns (w + 1) ns2
   noted-more w ns1 ns2 most h n m =
       record {
         kept = λ s u k z r. m .kept s u k (sink-on (w + 1) s (omega arith) most h z) (n .kept s u k z r);
         beyond = λ s u x k z x1 xw e r. by s u x k z x1 xw e r (decLe x w);
       }
     where
-      by : (s u x : ℕ) → u ≤ t .nodes → Seen t v from s → 1 ≤ x → x ≤ w + 1 → feeds t v from x ≡ true → Beyond t s x u → Dec (x ≤ w) → Right a t s ns2 u
+      by : (s u x : ℕ) → u ≤ t .nodes → Seen t v from s → 1 ≤ x → x ≤ w + 1 → otherNeighbour t v from x ≡ true → Beyond t s x u → Dec (x ≤ w) → Right a t s ns2 u
       by s u x k z x1 xw e r (yes l) = m .kept s u k (sink-on (w + 1) s (omega arith) most h z) (n .beyond s u x k z x1 l e r)
       by s u x k z x1 xw e r (no l) =
           let q : x ≡ w + 1 = omega arith in
           m .beyond s u k (sink-on (w + 1) s (omega arith) most h z) (rw q at r)
 
-  pub noted-same : (w : ℕ) (ns1 : List ℕ) → feeds t v from (w + 1) ≡ false → NotedTo a t v from ns w ns1 → NotedTo a t v from ns (w + 1) ns1
+  pub noted-same : (w : ℕ) (ns1 : List ℕ) → otherNeighbour t v from (w + 1) ≡ false → NotedTo a t v from ns w ns1 → NotedTo a t v from ns (w + 1) ns1
   noted-same w ns1 h n =
       record { kept = n .kept; beyond = λ s u x k z x1 xw e r. by s u x k z x1 xw e r (decLe x w) }
     where
-      by : (s u x : ℕ) → u ≤ t .nodes → Seen t v from s → 1 ≤ x → x ≤ w + 1 → feeds t v from x ≡ true → Beyond t s x u → Dec (x ≤ w) → Right a t s ns1 u
+      by : (s u x : ℕ) → u ≤ t .nodes → Seen t v from s → 1 ≤ x → x ≤ w + 1 → otherNeighbour t v from x ≡ true → Beyond t s x u → Dec (x ≤ w) → Right a t s ns1 u
       by s u x k z x1 xw e r (yes l) = n .beyond s u x k z x1 l e r
       by s u x k z x1 xw e r (no l) =
           let q : x ≡ w + 1 = omega arith in
@@ -127,6 +127,6 @@ module _ (a : Timing) (t : Tree) (p : Planted t) (v from : ℕ) (f : Facing t v 
       out s u k z (there w w1 wn g r) = stays s u k z (n .beyond s u w k z w1 wn (rw (z .towards) at g) r)
 
 -- a walk from the sink notes all
-pub all-noted : (a : Timing) (t : Tree) → Planted t → WithoutGaps t → (s : ℕ) → 1 ≤ s → s ≤ t .nodes → (ns ns' : List ℕ) → Noted a t s 0 ns ns' → AllRight a t s ns'
+pub all-noted : (a : Timing) (t : Tree) → Rooted t → WithoutGaps t → (s : ℕ) → 1 ≤ s → s ≤ t .nodes → (ns ns' : List ℕ) → Noted a t s 0 ns ns' → AllRight a t s ns'
 all-noted a t p full s one most ns ns' n =
     record { each = λ u u1 un. n .beyond s u un (record { node = one; known = most; towards = at-sink t p s one most }) (every t p s one most (full s most) u u1 un (full u un)) }

@@ -15,7 +15,7 @@ use Rattle.links.specs.declared.Reservation.{Reservation}
 use Rattle.links.specs.Link.{load, plus, loadUpTo64, reservationOf, afterLink, after}
 use Rattle.links.specs.Answers.{reservationAnswered, Timed}
 use Rattle.links.proofs.Making.{load-fits, reservation-fits}
-use Rattle.tree_model.specs.Tree.{Tree, treeOf, feeds, Planted, Ranged, WithoutSummaries, Facing}
+use Rattle.tree_model.specs.Tree.{Tree, treeOf, otherNeighbour, Rooted, Ranged, WithoutSummaries, Facing}
 use Rattle.tree_model.specs.Loads.{sensed, gather, inputOf, outputOf}
 use Rattle.tree_model.proofs.Steps.{offered, input-step, output-step}
 use Rattle.tree_model.proofs.PlainLists.{link-crossed}
@@ -24,7 +24,7 @@ use Rattle.tree_model.proofs.LoadBounds.{Short, Low, input-low, output-low}
 
 -- what the own sensor and the neighbours up to w bring
 abbrev pub soFar : Timing → Tree → ℕ → ℕ → ℕ → Load
-soFar a t v from w = gather (sensed a t v) (λ u. offered (feeds t v from u) (outputOf a t u v)) w
+soFar a t v from w = gather (sensed a t v) (λ u. offered (otherNeighbour t v from u) (outputOf a t u v)) w
 
 -- what the own sensor makes, from the entries of tables
 pub sensed-own : (a : Timing) (n : ℕ) (ps bs rs : List ℕ) (v : ℕ) → v < length (take n bs) → v < length (take n rs)
@@ -36,11 +36,11 @@ module _ (a : Timing) (t : Tree) (v from : ℕ) where
   unfolding gather
   none-yet = refl
 
-  pub more : (w : ℕ) (l o : Load) → l ≡ soFar a t v from w → feeds t v from (w + 1) ≡ true → o ≡ outputOf a t (w + 1) v → plus l o ≡ soFar a t v from (w + 1)
+  pub more : (w : ℕ) (l o : Load) → l ≡ soFar a t v from w → otherNeighbour t v from (w + 1) ≡ true → o ≡ outputOf a t (w + 1) v → plus l o ≡ soFar a t v from (w + 1)
   unfolding gather
   more w l o e b x = rw (e, x, add-one) (rw (rw add-one at b))
 
-  pub same : (w : ℕ) (l : Load) → l ≡ soFar a t v from w → feeds t v from (w + 1) ≡ false → l ≡ soFar a t v from (w + 1)
+  pub same : (w : ℕ) (l : Load) → l ≡ soFar a t v from w → otherNeighbour t v from (w + 1) ≡ false → l ≡ soFar a t v from (w + 1)
   unfolding gather
   same w l e b =
       rw add-one (rw (rw add-one at b) (e ∙ sym (ap₂ load (add-zero (soFar a t v from w .rate .0)) (add-zero (soFar a t v from w .burst .0)))))
@@ -53,11 +53,11 @@ gather-le : (s : Load) (f : ℕ → Load) (k n : ℕ) → k ≤ n → Under (gat
 unfolding gather
 gather-le s f k n h = le-ind (λ (m : ℕ). Under (gather s f k) (gather s f m)) (omega arith) (λ m l e. omega arith) n h
 
-module _ (a : Timing) (t : Tree) (p : Planted t) (g : Ranged t) (o : WithoutSummaries t) (s : Short a) (v from : ℕ) (f : Facing t v from) where
+module _ (a : Timing) (t : Tree) (p : Rooted t) (g : Ranged t) (o : WithoutSummaries t) (s : Short a) (v from : ℕ) (f : Facing t v from) where
   part-low : (w : ℕ) → w ≤ t .nodes → Low (soFar a t v from w)
   part-low w h =
-      let e : Low (gather (sensed a t v) (λ u. offered (feeds t v from u) (outputOf a t u v)) (t .nodes)) = rw (input-step a t p v from f) at (input-low a t p g o s v from f) in
-      let u = gather-le (sensed a t v) (λ u. offered (feeds t v from u) (outputOf a t u v)) w (t .nodes) h in
+      let e : Low (gather (sensed a t v) (λ u. offered (otherNeighbour t v from u) (outputOf a t u v)) (t .nodes)) = rw (input-step a t p v from f) at (input-low a t p g o s v from f) in
+      let u = gather-le (sensed a t v) (λ u. offered (otherNeighbour t v from u) (outputOf a t u v)) w (t .nodes) h in
       record { rate = omega (arith, e .rate, u .rate); burst = omega (arith, e .burst, u .burst) }
 
   -- so the sum of the code is the definition's
@@ -65,7 +65,7 @@ module _ (a : Timing) (t : Tree) (p : Planted t) (g : Ranged t) (o : WithoutSumm
   part-fits w h = let l = part-low w h in load-fits (soFar a t v from w) (omega (arith, l .rate)) (omega (arith, l .burst))
 
 -- the load that has left a link, as code computes it
-module _ (a : Timing) (t : Tree) (p : Planted t) (g : Ranged t) (own : WithoutSummaries t) (d : Timed a) (s : Short a) (v from : ℕ) (f : Facing t v from) where
+module _ (a : Timing) (t : Tree) (p : Rooted t) (g : Ranged t) (own : WithoutSummaries t) (d : Timed a) (s : Short a) (v from : ℕ) (f : Facing t v from) where
   pub output-made : (i o : Load) (r : Reservation) → i ≡ inputOf a t v from → r ≡ reservationAnswered a (i .rate) → o ≡ loadUpTo64 (afterLink i r) → o ≡ outputOf a t v from
   unfolding after
   output-made i o r ei er eo =

@@ -7,7 +7,7 @@ ghost use Prim.Native.Nat.{_≤_, _<_, _+_};
 ghost use lib.ListN.{length, take};
 ghost use Rattle.links.specs.Link.{load};
 ghost use Rattle.measure.specs.Measures.{frames, burst};
-ghost use Rattle.tree_model.specs.Tree.{Facing, Planted};
+ghost use Rattle.tree_model.specs.Tree.{Facing, Rooted};
 ghost use Rattle.tree_model.specs.Loads.{inputOf, outputOf};
 ghost use Rattle.tree_plan_model.specs.Children.{Linked, Beside, Nearest};
 ghost use Rattle.tree_plan_model.specs.Inner.{shape, treeUpTo, Given, Noted, AllRight};
@@ -106,7 +106,7 @@ fn sensor_load(t: Timing, own: u8, rate: u32) -> Load
 // The neighbour of v with the least number behind k, which is a neighbour of v or 0; 0 where there is none.
 fn neighbour_after(nodes: usize, kin: &[u8; 768], v: usize, k: usize) -> usize
     requires { ⌜ length (take (nodes + 1) (now kin)) ≤ 255 ⌝ }
-    requires { ⌜ Planted (shape (take (nodes + 1) (now kin))) ⌝ }
+    requires { ⌜ Rooted (shape (take (nodes + 1) (now kin))) ⌝ }
     requires { ⌜ Linked (take (nodes + 1) (now kin)) (now kin) ⌝ }
     requires { ⌜ 1 ≤ v ⌝ }
     requires { ⌜ v < length (take (nodes + 1) (now kin)) ⌝ }

@@ -4,13 +4,13 @@ use Prim.Native.Nat.{ℕ, zero, suc, _+_, _*_, _≤_, _<_}
 use native.Mathlib.Decide.{ℕ-discrete}
 use native.Mathlib.Omega.{arith}
 use borrow.Author.Tests.{eq-eqb, ne-eqb}
-use Rattle.tree_model.specs.Tree.{Tree, Planted, NoGap}
+use Rattle.tree_model.specs.Tree.{Tree, Rooted, NoGap}
 use Rattle.tree_model.specs.Ways.{next}
 use Rattle.tree_model.specs.Loads.{steps}
 use Rattle.tree_model.specs.Lines.{wayDelay}
 use Rattle.tree_model.proofs.WayLaws.{next-node, next-no-gap, left, left-falls, left-most}
 
-module _ (d : ℕ → ℕ) (t : Tree) (p : Planted t) (s : ℕ) (s-one : 1 ≤ s) (s-known : s ≤ t .nodes) (s-node : NoGap t s) where
+module _ (d : ℕ → ℕ) (t : Tree) (p : Rooted t) (s : ℕ) (s-one : 1 ≤ s) (s-known : s ≤ t .nodes) (s-node : NoGap t s) where
   -- at the sink there is none, and before it the first link's is added
   way-end : (k : ℕ) → wayDelay k d t s s ≡ 0
   unfolding wayDelay

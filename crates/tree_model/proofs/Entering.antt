@@ -10,7 +10,7 @@ use Rattle.links.specs.declared.Timing.{Timing}
 use Rattle.links.specs.declared.Load.{Load}
 use Rattle.links.specs.Link.{latencyOf}
 use Rattle.links.proofs.LinkLaws.{after-burst}
-use Rattle.tree_model.specs.Tree.{Tree, sumTo, feeds, Planted, Ranged, WithoutGaps, WithoutSummaries, Facing}
+use Rattle.tree_model.specs.Tree.{Tree, sumTo, otherNeighbour, Rooted, Ranged, WithoutGaps, WithoutSummaries, Facing}
 use Rattle.tree_model.specs.Ways.{next}
 use Rattle.tree_model.specs.Loads.{sensed, leaving, inputOf, outputOf, entering}
 use Rattle.tree_model.proofs.Steps.{offered, remaining, falls, faces, input-step, output-step}
@@ -30,25 +30,25 @@ unfolding sumTo
 sum-zero f zero h = refl
 sum-zero f (suc n) h = omega (arith, sum-zero f n (λ w a b. h w a (omega arith)), h (suc n) (omega arith) (le-refl (suc n)))
 
-module _ (a : Timing) (t : Tree) (p : Planted t) (g : Ranged t) (o : WithoutSummaries t) where
+module _ (a : Timing) (t : Tree) (p : Rooted t) (g : Ranged t) (o : WithoutSummaries t) where
   -- a node that nothing enters in the long run has nothing that enters at once
   silent-by : (m v from : ℕ) → Facing t v from → remaining t v from < m → inputOf a t v from .rate .0 ≡ 0 → inputOf a t v from .burst .0 ≡ 0
   silent-by zero v from f h z = absurd (omega arith)
   silent-by (suc m) v from f h z =
-      let x : inputOf a t v from .rate .0 ≡ t .rate v + sumTo (λ w. pick (feeds t v from w) (inputOf a t w v .rate .0)) (t .nodes) = rate-exact a t p v from f in
+      let x : inputOf a t v from .rate .0 ≡ t .rate v + sumTo (λ w. pick (otherNeighbour t v from w) (inputOf a t w v .rate .0)) (t .nodes) = rate-exact a t p v from f in
       let own : t .burst v ≡ 0 = g .both v (f .node) (f .known) (omega (arith, x)) in
-      let rest : sumTo (λ w. offered (feeds t v from w) (outputOf a t w v) .burst .0) (t .nodes) ≡ 0 =
-      sum-zero (λ w. offered (feeds t v from w) (outputOf a t w v) .burst .0) (t .nodes)
-      (λ w one most. by w one most (feeds t v from w) refl (sum-has (λ w. pick (feeds t v from w) (inputOf a t w v .rate .0)) w (t .nodes) one most) x
+      let rest : sumTo (λ w. offered (otherNeighbour t v from w) (outputOf a t w v) .burst .0) (t .nodes) ≡ 0 =
+      sum-zero (λ w. offered (otherNeighbour t v from w) (outputOf a t w v) .burst .0) (t .nodes)
+      (λ w one most. by w one most (otherNeighbour t v from w) refl (sum-has (λ w. pick (otherNeighbour t v from w) (inputOf a t w v .rate .0)) w (t .nodes) one most) x
       (λ e. silent-by m w v (faces t p v from w f one most e) (omega (arith, falls t p v from w f one most e)))) in
       ap (λ (l : Load). l .burst .0) (input-step a t p v from f)
-      ∙ gather-burst (sensed a t v) (λ w. offered (feeds t v from w) (outputOf a t w v)) (t .nodes)
+      ∙ gather-burst (sensed a t v) (λ w. offered (otherNeighbour t v from w) (outputOf a t w v)) (t .nodes)
       ∙ omega (arith, rest, own-burst a t o v, ap (λ (n : ℕ). n * a .interval .0) own)
     where
-      by : (w : ℕ) → 1 ≤ w → w ≤ t .nodes → (c : Bool) → feeds t v from w ≡ c
-          → pick c (inputOf a t w v .rate .0) ≤ sumTo (λ w. pick (feeds t v from w) (inputOf a t w v .rate .0)) (t .nodes)
-          → inputOf a t v from .rate .0 ≡ t .rate v + sumTo (λ w. pick (feeds t v from w) (inputOf a t w v .rate .0)) (t .nodes)
-          → (feeds t v from w ≡ true → inputOf a t w v .rate .0 ≡ 0 → inputOf a t w v .burst .0 ≡ 0)
+      by : (w : ℕ) → 1 ≤ w → w ≤ t .nodes → (c : Bool) → otherNeighbour t v from w ≡ c
+          → pick c (inputOf a t w v .rate .0) ≤ sumTo (λ w. pick (otherNeighbour t v from w) (inputOf a t w v .rate .0)) (t .nodes)
+          → inputOf a t v from .rate .0 ≡ t .rate v + sumTo (λ w. pick (otherNeighbour t v from w) (inputOf a t w v .rate .0)) (t .nodes)
+          → (otherNeighbour t v from w ≡ true → inputOf a t w v .rate .0 ≡ 0 → inputOf a t w v .burst .0 ≡ 0)
           → offered c (outputOf a t w v) .burst .0 ≡ 0
       by w one most true e l x ih =
           let r : inputOf a t w v .rate .0 ≡ 0 = omega (arith, l, x) in
@@ -61,10 +61,10 @@ module _ (a : Timing) (t : Tree) (p : Planted t) (g : Ranged t) (o : WithoutSumm
   pub silent : (v from : ℕ) → Facing t v from → inputOf a t v from .rate .0 ≡ 0 → inputOf a t v from .burst .0 ≡ 0
   silent v from f z = silent-by (suc (remaining t v from)) v from f (omega arith) z
 
-module _ (a : Timing) (t : Tree) (p : Planted t) (s : ℕ) (s-one : 1 ≤ s) (s-known : s ≤ t .nodes) (full : WithoutGaps t) where
+module _ (a : Timing) (t : Tree) (p : Rooted t) (s : ℕ) (s-one : 1 ≤ s) (s-known : s ≤ t .nodes) (full : WithoutGaps t) where
   -- what has left the links that lead to v is among what enters v; `q` is a load's rate, or its burst
   module _ (q : Load → ℕ)
-      (adds : (v from : ℕ) → Facing t v from → q (inputOf a t v from) ≡ q (sensed a t v) + sumTo (λ w. q (offered (feeds t v from w) (outputOf a t w v))) (t .nodes))
+      (adds : (v from : ℕ) → Facing t v from → q (inputOf a t v from) ≡ q (sensed a t v) + sumTo (λ w. q (offered (otherNeighbour t v from w) (outputOf a t w v))) (t .nodes))
       (out : ℕ → ℕ) (leaves : (w : ℕ) → 1 ≤ w → w ≤ t .nodes → (w ≡ s → ⊥) → out w ≡ q (leaving a t w (entering a t s w))) where
     pub enters : (v : ℕ) → 1 ≤ v → v ≤ t .nodes → (sent : ℕ → Bool) → ((w : ℕ) → 1 ≤ w → w ≤ t .nodes → sent w ≡ true → (w ≡ s → ⊥) × (next t s w ≡ v))
         → q (sensed a t v) + sumTo (λ w. bit (sent w) * out w) (t .nodes) ≤ q (entering a t s v)
@@ -73,26 +73,26 @@ module _ (a : Timing) (t : Tree) (p : Planted t) (s : ℕ) (s-one : 1 ≤ s) (s-
         omega (
           arith,
           adds v (next t s v) (facing t p s s-one s-known (full s s-known) v one most (full v most)),
-          sum-mono (λ w. bit (sent w) * out w) (λ w. q (offered (feeds t v (next t s v) w) (outputOf a t w v))) (t .nodes)
+          sum-mono (λ w. bit (sent w) * out w) (λ w. q (offered (otherNeighbour t v (next t s v) w) (outputOf a t w v))) (t .nodes)
               (λ w w1 wn. by w w1 wn (sent w) refl),
         )
       where
-        by : (w : ℕ) → 1 ≤ w → w ≤ t .nodes → (c : Bool) → sent w ≡ c → bit c * out w ≤ q (offered (feeds t v (next t s v) w) (outputOf a t w v))
+        by : (w : ℕ) → 1 ≤ w → w ≤ t .nodes → (c : Bool) → sent w ≡ c → bit c * out w ≤ q (offered (otherNeighbour t v (next t s v) w) (outputOf a t w v))
         by w w1 wn false e = omega arith
         by w w1 wn true e =
             let o = only w w1 wn e in
-            let f : feeds t v (next t s v) w ≡ true = rw (o .1) at (fed t p s s-one s-known (full s s-known) w w1 wn (full w wn) (o .0)) in
+            let f : otherNeighbour t v (next t s v) w ≡ true = rw (o .1) at (fed t p s s-one s-known (full s s-known) w w1 wn (full w wn) (o .0)) in
             let f2 : Facing t w v = rw (o .1) at (facing t p s s-one s-known (full s s-known) w w1 wn (full w wn)) in
             let l : out w ≡ q (leaving a t w (inputOf a t w v)) = rw (o .1) at (leaves w w1 wn (o .0)) in
             rw (f, output-step a t p w v f2) (omega (arith, l))
 
 -- rates and bursts add up so
-pub rates-add : (a : Timing) (t : Tree) → Planted t → (v from : ℕ) → Facing t v from
-    → inputOf a t v from .rate .0 ≡ sensed a t v .rate .0 + sumTo (λ w. offered (feeds t v from w) (outputOf a t w v) .rate .0) (t .nodes)
+pub rates-add : (a : Timing) (t : Tree) → Rooted t → (v from : ℕ) → Facing t v from
+    → inputOf a t v from .rate .0 ≡ sensed a t v .rate .0 + sumTo (λ w. offered (otherNeighbour t v from w) (outputOf a t w v) .rate .0) (t .nodes)
 rates-add a t p v from f =
-    ap (λ (l : Load). l .rate .0) (input-step a t p v from f) ∙ gather-rate (sensed a t v) (λ w. offered (feeds t v from w) (outputOf a t w v)) (t .nodes)
+    ap (λ (l : Load). l .rate .0) (input-step a t p v from f) ∙ gather-rate (sensed a t v) (λ w. offered (otherNeighbour t v from w) (outputOf a t w v)) (t .nodes)
 
-pub bursts-add : (a : Timing) (t : Tree) → Planted t → (v from : ℕ) → Facing t v from
-    → inputOf a t v from .burst .0 ≡ sensed a t v .burst .0 + sumTo (λ w. offered (feeds t v from w) (outputOf a t w v) .burst .0) (t .nodes)
+pub bursts-add : (a : Timing) (t : Tree) → Rooted t → (v from : ℕ) → Facing t v from
+    → inputOf a t v from .burst .0 ≡ sensed a t v .burst .0 + sumTo (λ w. offered (otherNeighbour t v from w) (outputOf a t w v) .burst .0) (t .nodes)
 bursts-add a t p v from f =
-    ap (λ (l : Load). l .burst .0) (input-step a t p v from f) ∙ gather-burst (sensed a t v) (λ w. offered (feeds t v from w) (outputOf a t w v)) (t .nodes)
+    ap (λ (l : Load). l .burst .0) (input-step a t p v from f) ∙ gather-burst (sensed a t v) (λ w. offered (otherNeighbour t v from w) (outputOf a t w v)) (t .nodes)

@@ -8,7 +8,7 @@ use Rattle.links.specs.declared.Load.{Load}
 use Rattle.links.specs.declared.Timing.{Timing}
 use Rattle.links.specs.Link.{after}
 use Rattle.links.proofs.LinkLaws.{after-rate, after-bound}
-use Rattle.tree_model.specs.Tree.{Tree, sumTo, feeds, Planted, Ranged, WithoutSummaries, Facing}
+use Rattle.tree_model.specs.Tree.{Tree, sumTo, otherNeighbour, Rooted, Ranged, WithoutSummaries, Facing}
 use Rattle.tree_model.specs.Loads.{sensed, leaving, gather, inputOf, outputOf}
 use Rattle.tree_model.proofs.Steps.{offered, remaining, falls, faces, input-step, output-step}
 use Rattle.tree_model.proofs.Shares.{pick, sum-ap, sum-mono, sum-most, within}
@@ -39,14 +39,14 @@ leaving-bound a t w l = by (t .summary w)
     by true = omega arith
     by false = omega (arith, after-bound a l)
 
-module _ (a : Timing) (t : Tree) (p : Planted t) where
-  pub rate-exact : (v from : ℕ) → Facing t v from → inputOf a t v from .rate .0 ≡ t .rate v + sumTo (λ w. pick (feeds t v from w) (inputOf a t w v .rate .0)) (t .nodes)
+module _ (a : Timing) (t : Tree) (p : Rooted t) where
+  pub rate-exact : (v from : ℕ) → Facing t v from → inputOf a t v from .rate .0 ≡ t .rate v + sumTo (λ w. pick (otherNeighbour t v from w) (inputOf a t w v .rate .0)) (t .nodes)
   rate-exact v from f =
       ap (λ (l : Load). l .rate .0) (input-step a t p v from f)
-      ∙ gather-rate (sensed a t v) (λ w. offered (feeds t v from w) (outputOf a t w v)) (t .nodes)
-      ∙ ap (λ (x : ℕ). t .rate v + x) (sum-ap (λ w. offered (feeds t v from w) (outputOf a t w v) .rate .0) (λ w. pick (feeds t v from w) (inputOf a t w v .rate .0)) (t .nodes) (λ w one most. by w one most (feeds t v from w) refl))
+      ∙ gather-rate (sensed a t v) (λ w. offered (otherNeighbour t v from w) (outputOf a t w v)) (t .nodes)
+      ∙ ap (λ (x : ℕ). t .rate v + x) (sum-ap (λ w. offered (otherNeighbour t v from w) (outputOf a t w v) .rate .0) (λ w. pick (otherNeighbour t v from w) (inputOf a t w v .rate .0)) (t .nodes) (λ w one most. by w one most (otherNeighbour t v from w) refl))
     where
-      by : (w : ℕ) → 1 ≤ w → w ≤ t .nodes → (b : Bool) → feeds t v from w ≡ b → offered b (outputOf a t w v) .rate .0 ≡ pick b (inputOf a t w v .rate .0)
+      by : (w : ℕ) → 1 ≤ w → w ≤ t .nodes → (b : Bool) → otherNeighbour t v from w ≡ b → offered b (outputOf a t w v) .rate .0 ≡ pick b (inputOf a t w v .rate .0)
       by w one most true e = ap (λ (l : Load). l .rate .0) (output-step a t p w v (faces t p v from w f one most e)) ∙ leaving-rate a t w (inputOf a t w v)
       by w one most false e = refl
 
@@ -62,12 +62,12 @@ abbrev heavy : Timing → Tree → Tree
 heavy a t =
     record { nodes = t .nodes; parent = t .parent; rate = λ v. t .burst v * a .interval .0 + added a; burst = t .burst; summary = t .summary; inside = t .inside }
 
-module _ (a : Timing) (t : Tree) (p : Planted t) (g : Ranged t) (o : WithoutSummaries t) where
+module _ (a : Timing) (t : Tree) (p : Rooted t) (g : Ranged t) (o : WithoutSummaries t) where
   pub rate-most : (v from : ℕ) → Facing t v from → inputOf a t v from .rate .0 ≤ 1040130
   rate-most v from f =
       omega (arith, rate-within a t p v from f, sum-most (t .rate) 4095 (t .nodes) (λ w one most. g .rates w one most), p .few)
 
-  planted : Planted (heavy a t)
+  planted : Rooted (heavy a t)
   planted = record { few = p .few; root = p .root; listed = p .listed; smaller = p .smaller }
 
   facing : (v from : ℕ) → Facing t v from → Facing (heavy a t) v from
@@ -84,14 +84,14 @@ module _ (a : Timing) (t : Tree) (p : Planted t) (g : Ranged t) (o : WithoutSumm
       omega (
         arith,
         ap (λ (l : Load). l .burst .0) (input-step a t p v from f)
-            ∙ gather-burst (sensed a t v) (λ w. offered (feeds t v from w) (outputOf a t w v)) (t .nodes),
+            ∙ gather-burst (sensed a t v) (λ w. offered (otherNeighbour t v from w) (outputOf a t w v)) (t .nodes),
         own-burst a t o v,
         rate-exact a (heavy a t) planted v from (facing v from f),
-        sum-mono (λ w. offered (feeds t v from w) (outputOf a t w v) .burst .0) (λ w. pick (feeds t v from w) (inputOf a (heavy a t) w v .rate .0)) (t .nodes)
-            (λ w one most. by w one most (feeds t v from w) (λ e. burst-below m w v (faces t p v from w f one most e) (omega (arith, falls t p v from w f one most e))) refl),
+        sum-mono (λ w. offered (otherNeighbour t v from w) (outputOf a t w v) .burst .0) (λ w. pick (otherNeighbour t v from w) (inputOf a (heavy a t) w v .rate .0)) (t .nodes)
+            (λ w one most. by w one most (otherNeighbour t v from w) (λ e. burst-below m w v (faces t p v from w f one most e) (omega (arith, falls t p v from w f one most e))) refl),
       )
     where
-      by : (w : ℕ) → 1 ≤ w → w ≤ t .nodes → (b : Bool) → (feeds t v from w ≡ true → inputOf a t w v .burst .0 + added a ≤ inputOf a (heavy a t) w v .rate .0) → feeds t v from w ≡ b → offered b (outputOf a t w v) .burst .0 ≤ pick b (inputOf a (heavy a t) w v .rate .0)
+      by : (w : ℕ) → 1 ≤ w → w ≤ t .nodes → (b : Bool) → (otherNeighbour t v from w ≡ true → inputOf a t w v .burst .0 + added a ≤ inputOf a (heavy a t) w v .rate .0) → otherNeighbour t v from w ≡ b → offered b (outputOf a t w v) .burst .0 ≤ pick b (inputOf a (heavy a t) w v .rate .0)
       by w one most true ih e = omega (arith, link-adds w v (faces t p v from w f one most e), ih e)
       by w one most false ih e = le-refl 0
 
@@ -115,7 +115,7 @@ pub record Low (l : Load) : Type 0 where
   pub rate : l .rate .0 ≤ 1040130
   pub burst : l .burst .0 < 2 ^ 53
 
-module _ (a : Timing) (t : Tree) (p : Planted t) (g : Ranged t) (o : WithoutSummaries t) (s : Short a) (v from : ℕ) (f : Facing t v from) where
+module _ (a : Timing) (t : Tree) (p : Rooted t) (g : Ranged t) (o : WithoutSummaries t) (s : Short a) (v from : ℕ) (f : Facing t v from) where
   -- a load that enters a node, and the load that has left its link
   pub input-low : Low (inputOf a t v from)
   input-low = record { rate = rate-most a t p g o v from f; burst = omega (arith, burst-most a t p g o v from f, s .interval, s .exchange) }

@@ -15,7 +15,7 @@ use Rattle.links.specs.declared.Load.{Load}
 use Rattle.links.specs.Link.{load, after}
 use Rattle.settings_model.specs.declared.Radio.{Radio}
 use Rattle.plan_model.specs.Times.{timingOf}
-use Rattle.tree_model.specs.Tree.{Tree, treeOf, Planted, WithoutGaps, WithoutSummaries, Plain, sumTo, isRouter, routers, isListed}
+use Rattle.tree_model.specs.Tree.{Tree, treeOf, Rooted, WithoutGaps, WithoutSummaries, Plain, sumTo, isRouter, routers, isListed}
 use Rattle.tree_model.specs.Loads.{sensed, leaving}
 use Rattle.tree_model.specs.Lines.{lineAt, lines}
 use Rattle.tree_model.specs.Laws.{Consecutive, PlainListSurveyed, PlainAsInE3}
@@ -27,7 +27,7 @@ module _ (t : Tree) (C : Consecutive t) where
   pub without-gaps : WithoutGaps t
   without-gaps v most two = C .parents v two most .0
 
-  pub planted : Planted t
+  pub planted : Rooted t
   planted = record {
     few = C .few;
     root = C .root;

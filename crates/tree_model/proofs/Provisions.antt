@@ -15,7 +15,7 @@ use Rattle.superframe_model.proofs.ReservationLaws.{frames-fit, latency-sum}
 use Rattle.network.specs.Counting.{total, bit}
 use Rattle.network.specs.Model.{Network}
 use Rattle.network.specs.Run.{feeds}
-use Rattle.network.specs.Loads.{Figures, burstAfter, Linked, Provisioned}
+use Rattle.network.specs.Loads.{Flows, burstAfter, Linked, Provisioned}
 use Rattle.links.specs.declared.Timing.{Timing}
 use Rattle.links.specs.declared.Load.{Load}
 use Rattle.links.specs.Link.{slotsOf, framesOf, latencyOf, after}
@@ -42,7 +42,7 @@ use Rattle.tree_model.proofs.NodeLines.{link-printed, link-used, no-slo
 use Rattle.promise_model.specs.Promise as promise
 
 -- a node's own sensor, the load that enters it, and of its link the latency, the delay and what is ahead, in the run's numbers
-unfoldable pub treeFigures : Radio → Tree → ℕ → Figures
+unfoldable pub treeFigures : Radio → Tree → ℕ → Flows
 treeFigures b t s = record {
   ownRate = λ i. sensed (timingOf b) t (suc i) .rate .0;
   ownBurst = λ i. sensed (timingOf b) t (suc i) .burst .0;
@@ -147,7 +147,7 @@ module _ (b : Radio) (C : CheckedRadio b) (t : Tree) (s : ℕ) (S : Surveyed t s
 
   module _ (q : Load → ℕ)
       (adds : (v from : ℕ) → Facing t v from
-      → q (inputOf (timingOf b) t v from) ≡ q (sensed (timingOf b) t v) + sumTo (λ w. q (offered (tree.feeds t v from w) (outputOf (timingOf b) t w v))) (t .nodes))
+      → q (inputOf (timingOf b) t v from) ≡ q (sensed (timingOf b) t v) + sumTo (λ w. q (offered (tree.otherNeighbour t v from w) (outputOf (timingOf b) t w v))) (t .nodes))
       (f : ℕ → ℕ) (leaves : (i : ℕ) → f i ≡ q (leaving (timingOf b) t (suc i) (loadAt b t s (suc i)))) where
     -- what a node's own sensor makes and what left the links to it enters it
     all-enters : (j : ℕ) → j < t .nodes → q (sensed (timingOf b) t (suc j)) + total (λ i. bit (feeds N i j) * f i) (t .nodes) ≤ q (loadAt b t s (suc j))

@@ -9,7 +9,7 @@ use native.Mathlib.Omega.{arith}
 use lib.Dec.{eqb, leb}
 use borrow.Author.Tests.{eq-eqb, ne-eqb, le-leb, lt-leb}
 use Rattle.network.specs.Counting.{bit}
-use Rattle.tree_model.specs.Tree.{Tree, Planted, sumTo, someTo, isNumber, isRouter}
+use Rattle.tree_model.specs.Tree.{Tree, Rooted, sumTo, someTo, isNumber, isRouter}
 use Rattle.tree_model.specs.Ways.{depthBy, depthOf}
 
 -- ---- routers
@@ -73,7 +73,7 @@ not-counted p n v e r = rw (add-one v) (rw (rw (add-one v) at r) (omega arith))
 
 -- ---- depths
 
-module _ (t : Tree) (p : Planted t) where
+module _ (t : Tree) (p : Rooted t) where
   -- any bound on the steps that is enough gives the same
   depth-enough : (k j v : ℕ) → v ≤ k → v ≤ j → v ≤ t .nodes → depthBy k t v ≡ depthBy j t v
   unfolding depthBy

@@ -7,7 +7,7 @@ use native.Mathlib.Omega.{arith}
 use native.Mathlib.Decide.{decLe, ℕ-discrete}
 use lib.Dec.{eqb, ltb, leb}
 use borrow.Author.Tests.{eq-eqb, ne-eqb, lt-ltb, le-ltb, le-leb, lt-leb}
-use Rattle.tree_model.specs.Tree.{Tree, sumTo, feeds, Planted, Facing}
+use Rattle.tree_model.specs.Tree.{Tree, sumTo, otherNeighbour, Rooted, Facing}
 
 -- x, where the test holds
 abbrev pub pick : Bool → ℕ → ℕ
@@ -62,8 +62,8 @@ module _ (f : ℕ → ℕ) (q : ℕ) where
       by (no e) h = rw (ne-eqb (suc n) q e) (omega (arith, h (omega (arith, e))))
 
 -- y v from: what enters v, and is made of g v and what enters the neighbours away from `from`
-module _ (t : Tree) (p : Planted t) (g : ℕ → ℕ) (y : ℕ → ℕ → ℕ)
-    (exact : (v from : ℕ) → Facing t v from → y v from ≡ g v + sumTo (λ w. pick (feeds t v from w) (y w v)) (t .nodes)) where
+module _ (t : Tree) (p : Rooted t) (g : ℕ → ℕ) (y : ℕ → ℕ → ℕ)
+    (exact : (v from : ℕ) → Facing t v from → y v from ≡ g v + sumTo (λ w. pick (otherNeighbour t v from w) (y w v)) (t .nodes)) where
   -- all from v down
   low : ℕ → ℕ
   low v = y v (t .parent v)
@@ -88,10 +88,10 @@ module _ (t : Tree) (p : Planted t) (g : ℕ → ℕ) (y : ℕ → ℕ → ℕ)
   unfolding low kids
   low-step v one most =
       exact v (t .parent v) (facing-up v one most) ∙ ap (λ (x : ℕ). g v + x)
-      (sum-ap (λ w. pick (feeds t v (t .parent v) w) (y w v)) (λ w. pick (eqb (t .parent w) v) (low w)) (t .nodes)
+      (sum-ap (λ w. pick (otherNeighbour t v (t .parent v) w) (y w v)) (λ w. pick (eqb (t .parent w) v) (low w)) (t .nodes)
       (λ w a b. by w (ℕ-discrete (t .parent w) v) (ℕ-discrete (t .parent v) w) (p .smaller w a b) (p .smaller v one most)))
     where
-      by : (w : ℕ) → Dec (t .parent w ≡ v) → Dec (t .parent v ≡ w) → t .parent w < w → t .parent v < v → pick (feeds t v (t .parent v) w) (y w v) ≡ pick (eqb (t .parent w) v) (y w (t .parent w))
+      by : (w : ℕ) → Dec (t .parent w ≡ v) → Dec (t .parent v ≡ w) → t .parent w < w → t .parent v < v → pick (otherNeighbour t v (t .parent v) w) (y w v) ≡ pick (eqb (t .parent w) v) (y w (t .parent w))
       by w (yes e) d h l = rw (eq-eqb (t .parent w) v e, ne-eqb w (t .parent v) (λ q. omega arith), e)
       by w (no e) (yes d) h l = rw (ne-eqb (t .parent w) v e, eq-eqb w (t .parent v) (sym d))
       by w (no e) (no d) h l = rw (ne-eqb (t .parent w) v e, ne-eqb w (t .parent v) (λ q. d (sym q)), ne-eqb (t .parent v) w d)
@@ -153,8 +153,8 @@ module _ (t : Tree) (p : Planted t) (g : ℕ → ℕ) (y : ℕ → ℕ → ℕ)
         arith,
         exact v c f,
         low-step v (f .node) (f .known),
-        sym (sum-add (λ w. pick (feeds t v c w) (y w v)) (λ w. pick (eqb w c) (low w)) (t .nodes))
-            ∙ sum-ap (λ w. pick (feeds t v c w) (y w v) + pick (eqb w c) (low w)) (λ w. pick (eqb (t .parent w) v) (low w) + pick (eqb w (t .parent v)) (y w v)) (t .nodes)
+        sym (sum-add (λ w. pick (otherNeighbour t v c w) (y w v)) (λ w. pick (eqb w c) (low w)) (t .nodes))
+            ∙ sum-ap (λ w. pick (otherNeighbour t v c w) (y w v) + pick (eqb w c) (low w)) (λ w. pick (eqb (t .parent w) v) (low w) + pick (eqb w (t .parent v)) (y w v)) (t .nodes)
             (λ w a b. by w (ℕ-discrete w c) (ℕ-discrete (t .parent w) v) (ℕ-discrete (t .parent v) w) (p .smaller w a b))
             ∙ sum-add (λ w. pick (eqb (t .parent w) v) (low w)) (λ w. pick (eqb w (t .parent v)) (y w v)) (t .nodes),
         sum-at low c (t .nodes) (omega arith) (f .knownFrom),
@@ -166,7 +166,7 @@ module _ (t : Tree) (p : Planted t) (g : ℕ → ℕ) (y : ℕ → ℕ → ℕ)
       child : t .parent c ≡ v
       child = f .down l
 
-      by : (w : ℕ) → Dec (w ≡ c) → Dec (t .parent w ≡ v) → Dec (t .parent v ≡ w) → t .parent w < w → pick (feeds t v c w) (y w v) + pick (eqb w c) (low w) ≡ pick (eqb (t .parent w) v) (low w) + pick (eqb w (t .parent v)) (y w v)
+      by : (w : ℕ) → Dec (w ≡ c) → Dec (t .parent w ≡ v) → Dec (t .parent v ≡ w) → t .parent w < w → pick (otherNeighbour t v c w) (y w v) + pick (eqb w c) (low w) ≡ pick (eqb (t .parent w) v) (low w) + pick (eqb w (t .parent v)) (y w v)
       by w (yes e) s r q = rw (eq-eqb w c e, eq-eqb (t .parent w) v (ap (t .parent) e ∙ child), ne-eqb w (t .parent v) (λ d. omega (arith, h))) (omega arith)
       by w (no e) (yes s) r q = rw (ne-eqb w c e, eq-eqb (t .parent w) v s, ne-eqb w (t .parent v) (λ d. omega (arith, h)), s) (omega arith)
       by w (no e) (no s) (yes r) q = rw (ne-eqb w c e, ne-eqb (t .parent w) v s, eq-eqb (t .parent v) w r, eq-eqb w (t .parent v) (sym r)) (omega arith)
@@ -202,7 +202,7 @@ module _ (t : Tree) (p : Planted t) (g : ℕ → ℕ) (y : ℕ → ℕ → ℕ)
   at-sink v one most = omega (
     arith,
     exact v 0 face,
-    sum-ap (λ w. pick (feeds t v 0 w) (y w v)) (λ w. pick (eqb (t .parent w) v) (low w) + pick (eqb w (t .parent v)) (y w v)) (t .nodes)
+    sum-ap (λ w. pick (otherNeighbour t v 0 w) (y w v)) (λ w. pick (eqb (t .parent w) v) (low w) + pick (eqb w (t .parent v)) (y w v)) (t .nodes)
         (λ w a b. by w (ℕ-discrete (t .parent w) v) (ℕ-discrete (t .parent v) w) a (p .smaller w a b)),
     whole v v (le-refl v) one most,
     low-step v one most,
@@ -215,7 +215,7 @@ module _ (t : Tree) (p : Planted t) (g : ℕ → ℕ) (y : ℕ → ℕ → ℕ)
       face : Facing t v 0
       face = record { node = one; known = most; apart = λ e. omega arith; up = λ a b. absurd (omega arith); down = λ a. absurd (omega arith); knownFrom = omega arith }
 
-      by : (w : ℕ) → Dec (t .parent w ≡ v) → Dec (t .parent v ≡ w) → 1 ≤ w → t .parent w < w → pick (feeds t v 0 w) (y w v) ≡ pick (eqb (t .parent w) v) (low w) + pick (eqb w (t .parent v)) (y w v)
+      by : (w : ℕ) → Dec (t .parent w ≡ v) → Dec (t .parent v ≡ w) → 1 ≤ w → t .parent w < w → pick (otherNeighbour t v 0 w) (y w v) ≡ pick (eqb (t .parent w) v) (low w) + pick (eqb w (t .parent v)) (y w v)
       by w (yes s) r one q = rw (ne-eqb w 0 (λ d. omega arith), eq-eqb (t .parent w) v s, ne-eqb w (t .parent v) (λ d. omega (arith, h)), s) (omega arith)
       by w (no s) (yes r) one q = rw (ne-eqb w 0 (λ d. omega arith), ne-eqb (t .parent w) v s, eq-eqb (t .parent v) w r, eq-eqb w (t .parent v) (sym r)) (omega arith)
       by w (no s) (no r) one q = rw (ne-eqb w 0 (λ d. omega arith), ne-eqb (t .parent w) v s, ne-eqb (t .parent v) w r, ne-eqb w (t .parent v) (λ d. r (sym d)))

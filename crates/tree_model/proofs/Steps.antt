@@ -10,9 +10,9 @@ use lib.Dec.{eqb, ltb}
 use borrow.Author.Tests.{eqb-true, eqb-false, eq-eqb, ne-eqb, lt-ltb, le-ltb}
 use Rattle.links.specs.declared.Load.{Load}
 use Rattle.links.specs.declared.Timing.{Timing}
-use Rattle.links.specs.Link.{plus}
-use Rattle.tree_model.specs.Tree.{Tree, feeds, Planted, Facing}
-use Rattle.tree_model.specs.Loads.{none, sensed, leaving, gather, inputBy, outputBy, steps, inputOf, outputOf}
+use Rattle.links.specs.Link.{plus, noLoad}
+use Rattle.tree_model.specs.Tree.{Tree, otherNeighbour, Rooted, Facing}
+use Rattle.tree_model.specs.Loads.{sensed, leaving, gather, inputBy, outputBy, steps, inputOf, outputOf}
 
 -- the neighbour w of v is a child, or the parent
 pub record Child (t : Tree) (v w : ℕ) : Type 0 where
@@ -22,7 +22,7 @@ pub record Next (t : Tree) (v from w : ℕ) : Type 0 where
   pub other : w ≡ from → ⊥
   pub side : (t .parent w ≡ v) ⊎ (t .parent v ≡ w)
 
-pub next : (t : Tree) (v from w : ℕ) → feeds t v from w ≡ true → Next t v from w
+pub next : (t : Tree) (v from w : ℕ) → otherNeighbour t v from w ≡ true → Next t v from w
 next t v from w = by (eqb w from) refl (eqb (t .parent w) v) refl (eqb (t .parent v) w) refl
   where
     by : (x : Bool) → eqb w from ≡ x → (y : Bool) → eqb (t .parent w) v ≡ y → (z : Bool) → eqb (t .parent v) w ≡ z → (not x && (y || z)) ≡ true → Next t v from w
@@ -40,7 +40,7 @@ rest n v false false = n + 1 - v
 pub remaining : Tree → ℕ → ℕ → ℕ
 remaining t v from = rest (t .nodes) v (ltb v from) (eqb from 0)
 
-module _ (t : Tree) (p : Planted t) where
+module _ (t : Tree) (p : Rooted t) where
   going-up : (v from : ℕ) → v < from → remaining t v from ≡ t .nodes + 1 + v
   unfolding remaining rest
   going-up v from h = rw (lt-ltb v from h)
@@ -54,7 +54,7 @@ module _ (t : Tree) (p : Planted t) where
   going-down v from h l = rw (le-ltb v from l, ne-eqb from 0 (λ e. omega arith))
 
   -- what lies beyond a neighbour away from the sink is less
-  pub falls : (v from w : ℕ) → Facing t v from → 1 ≤ w → w ≤ t .nodes → feeds t v from w ≡ true → remaining t w v < remaining t v from
+  pub falls : (v from w : ℕ) → Facing t v from → 1 ≤ w → w ≤ t .nodes → otherNeighbour t v from w ≡ true → remaining t w v < remaining t v from
   falls v from w f one most h = by (next t v from w h .side) (decLe (suc v) from) (decLe from 0)
     where
       other : w ≡ from → ⊥
@@ -68,7 +68,7 @@ module _ (t : Tree) (p : Planted t) where
       by (inr e) (no u) (yes z) = omega (arith, at-sink v from z, going-up w v (omega (arith, p .smaller v (f .node) (f .known))))
       by (inr e) (no u) (no z) = absurd (other (sym e ∙ f .up (omega arith) (omega (arith, f .apart))))
 
-  pub faces : (v from w : ℕ) → Facing t v from → 1 ≤ w → w ≤ t .nodes → feeds t v from w ≡ true → Facing t w v
+  pub faces : (v from w : ℕ) → Facing t v from → 1 ≤ w → w ≤ t .nodes → otherNeighbour t v from w ≡ true → Facing t w v
   faces v from w f one most h = by (next t v from w h .side)
     where
       by : (t .parent w ≡ v) ⊎ (t .parent v ≡ w) → Facing t w v
@@ -95,9 +95,9 @@ gather-ap s f g (suc n) h = ap₂ plus (gather-ap s f g n (λ w a b. h w a (omeg
 -- the load l, where there is such a link
 abbrev pub offered : Bool → Load → Load
 offered true l = l
-offered false l = none
+offered false l = noLoad
 
-module _ (a : Timing) (t : Tree) (p : Planted t) where
+module _ (a : Timing) (t : Tree) (p : Rooted t) where
   -- any number of steps that is enough gives the same
   pub enough : (m k j v from : ℕ) → Facing t v from → remaining t v from < m → 2 * m ≤ k → 2 * m ≤ j → inputBy k a t v from ≡ inputBy j a t v from
   unfolding inputBy
@@ -107,10 +107,10 @@ module _ (a : Timing) (t : Tree) (p : Planted t) where
   enough (suc m) (suc (suc k)) zero v from f r x y = absurd (omega arith)
   enough (suc m) (suc (suc k)) (suc zero) v from f r x y = absurd (omega arith)
   enough (suc m) (suc (suc k)) (suc (suc j)) v from f r x y =
-      gather-ap (sensed a t v) (λ w. outputBy (suc k) (feeds t v from w) a t w v) (λ w. outputBy (suc j) (feeds t v from w) a t w v) (t .nodes)
-      (λ w one most. by w (feeds t v from w) (λ e. enough m k j w v (faces t p v from w f one most e) (omega (arith, falls t p v from w f one most e)) (omega arith) (omega arith)) refl)
+      gather-ap (sensed a t v) (λ w. outputBy (suc k) (otherNeighbour t v from w) a t w v) (λ w. outputBy (suc j) (otherNeighbour t v from w) a t w v) (t .nodes)
+      (λ w one most. by w (otherNeighbour t v from w) (λ e. enough m k j w v (faces t p v from w f one most e) (omega (arith, falls t p v from w f one most e)) (omega arith) (omega arith)) refl)
     where
-      by : (w : ℕ) (b : Bool) → (feeds t v from w ≡ true → inputBy k a t w v ≡ inputBy j a t w v) → feeds t v from w ≡ b → outputBy (suc k) b a t w v ≡ outputBy (suc j) b a t w v
+      by : (w : ℕ) (b : Bool) → (otherNeighbour t v from w ≡ true → inputBy k a t w v ≡ inputBy j a t w v) → otherNeighbour t v from w ≡ b → outputBy (suc k) b a t w v ≡ outputBy (suc j) b a t w v
       by w true h e = ap (leaving a t w) (h e)
       by w false h e = refl
 
@@ -125,20 +125,20 @@ module _ (a : Timing) (t : Tree) (p : Planted t) where
         let z : steps t ≡ suc (4 * t .nodes + 7) = omega arith in
         rw z (output-at (4 * t .nodes + 7) (omega arith))
 
-    input-at : (k : ℕ) → 4 * t .nodes + 6 ≤ k → inputBy (suc (suc k)) a t v from ≡ gather (sensed a t v) (λ w. offered (feeds t v from w) (outputBy (suc (suc k)) true a t w v)) (t .nodes)
+    input-at : (k : ℕ) → 4 * t .nodes + 6 ≤ k → inputBy (suc (suc k)) a t v from ≡ gather (sensed a t v) (λ w. offered (otherNeighbour t v from w) (outputBy (suc (suc k)) true a t w v)) (t .nodes)
     unfolding inputBy
     input-at k h =
-        gather-ap (sensed a t v) (λ w. outputBy (suc k) (feeds t v from w) a t w v) (λ w. offered (feeds t v from w) (outputBy (suc (suc k)) true a t w v)) (t .nodes)
-        (λ w one most. by w one most (feeds t v from w) refl)
+        gather-ap (sensed a t v) (λ w. outputBy (suc k) (otherNeighbour t v from w) a t w v) (λ w. offered (otherNeighbour t v from w) (outputBy (suc (suc k)) true a t w v)) (t .nodes)
+        (λ w one most. by w one most (otherNeighbour t v from w) refl)
       where
-        by : (w : ℕ) → 1 ≤ w → w ≤ t .nodes → (b : Bool) → feeds t v from w ≡ b → outputBy (suc k) b a t w v ≡ offered b (outputBy (suc (suc k)) true a t w v)
+        by : (w : ℕ) → 1 ≤ w → w ≤ t .nodes → (b : Bool) → otherNeighbour t v from w ≡ b → outputBy (suc k) b a t w v ≡ offered b (outputBy (suc (suc k)) true a t w v)
         by w one most true e =
             let g = faces t p v from w f one most e in
             ap (leaving a t w) (enough (2 * t .nodes + 3) k (suc k) w v g (omega (arith, most-remains t p w v g)) (omega arith) (omega arith))
         by w one most false e = refl
 
     -- what enters a node is what its own sensor makes and what leaves the links of all its neighbours but the one towards the sink
-    pub input-step : inputOf a t v from ≡ gather (sensed a t v) (λ w. offered (feeds t v from w) (outputOf a t w v)) (t .nodes)
+    pub input-step : inputOf a t v from ≡ gather (sensed a t v) (λ w. offered (otherNeighbour t v from w) (outputOf a t w v)) (t .nodes)
     input-step =
         let z : steps t ≡ suc (suc (4 * t .nodes + 6)) = omega arith in
         rw z (input-at (4 * t .nodes + 6) (omega arith))

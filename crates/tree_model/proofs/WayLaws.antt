@@ -8,11 +8,11 @@ use native.Mathlib.Omega.{arith}
 use native.Mathlib.Decide.{decLe, ℕ-discrete}
 use lib.Dec.{eqb, ltb, leb}
 use borrow.Author.Tests.{eq-eqb, ne-eqb, lt-ltb, le-ltb, le-leb, lt-leb}
-use Rattle.tree_model.specs.Tree.{Tree, feeds, Planted, NoGap, Facing}
+use Rattle.tree_model.specs.Tree.{Tree, otherNeighbour, Rooted, NoGap, Facing}
 use Rattle.tree_model.proofs.Steps as steps
-use Rattle.tree_model.specs.Ways.{childBy, below, orElse, next, superframeBy, superframeOf, Beyond, here, there}
+use Rattle.tree_model.specs.Ways.{childBy, childTowards, orElse, next, superframeBy, superframeOf, Beyond, here, there}
 
-feeds-yes : (t : Tree) (v from w : ℕ) → (w ≡ from → ⊥) → (t .parent w ≡ v) ⊎ (t .parent v ≡ w) → feeds t v from w ≡ true
+feeds-yes : (t : Tree) (v from w : ℕ) → (w ≡ from → ⊥) → (t .parent w ≡ v) ⊎ (t .parent v ≡ w) → otherNeighbour t v from w ≡ true
 feeds-yes t v from w n (inl e) = rw (ne-eqb w from n, eq-eqb (t .parent w) v e)
 feeds-yes t v from w n (inr e) = by (eqb (t .parent w) v)
   where
@@ -20,7 +20,7 @@ feeds-yes t v from w n (inr e) = by (eqb (t .parent w) v)
     by true = rw (ne-eqb w from n)
     by false = rw (ne-eqb w from n, eq-eqb (t .parent v) w e)
 
-module _ (t : Tree) (p : Planted t) where
+module _ (t : Tree) (p : Rooted t) where
   pub child-found : (k c v : ℕ) → t .parent (suc c) ≡ v → childBy (suc k) t (suc c) v ≡ suc c
   unfolding childBy
   child-found k c v e = rw (eq-eqb (t .parent (suc c)) v e, childBy)
@@ -91,10 +91,10 @@ module _ (t : Tree) (p : Planted t) where
     at-sink = rw (eq-eqb s s refl, next)
 
     pub next-else : (v : ℕ) → (v ≡ s → ⊥) → next t s v ≡ orElse (childBy (t .nodes) t s v) (t .parent v)
-    unfolding next below
+    unfolding next childTowards
     next-else v n = rw (ne-eqb v s n, next)
 
-    -- below v
+    -- childTowards v
     next-below : (v w : ℕ) → (v ≡ s → ⊥) → 1 ≤ w → childBy (t .nodes) t s v ≡ w → next t s v ≡ w
     next-below v w n one e = next-else v n ∙ (rw e (by w one))
       where
@@ -125,7 +125,7 @@ module _ (t : Tree) (p : Planted t) where
         next-below (t .parent c) c (λ q. omega arith) one (child-next (t .nodes) s c s-known s-known one h)
 
     -- a neighbour that does not lie towards the sink has this node towards the sink
-    pub next-step : (v w : ℕ) → 1 ≤ v → v ≤ t .nodes → 1 ≤ w → w ≤ t .nodes → feeds t v (next t s v) w ≡ true → next t s w ≡ v
+    pub next-step : (v w : ℕ) → 1 ≤ v → v ≤ t .nodes → 1 ≤ w → w ≤ t .nodes → otherNeighbour t v (next t s v) w ≡ true → next t s w ≡ v
     next-step v w v1 vn w1 wn h = by (n .side)
       where
         n : steps.Next t v (next t s v) w
@@ -146,7 +146,7 @@ module _ (t : Tree) (p : Planted t) where
         by (inr e) = parent e (ℕ-discrete v s) (decLe 1 (childBy (t .nodes) t s v))
 
     -- the walk can go one step on
-    beyond-on : (v u w : ℕ) → 1 ≤ w → w ≤ t .nodes → Beyond t s v u → feeds t u (next t s u) w ≡ true → Beyond t s v w
+    beyond-on : (v u w : ℕ) → 1 ≤ w → w ≤ t .nodes → Beyond t s v u → otherNeighbour t u (next t s u) w ≡ true → Beyond t s v w
     beyond-on v u w a b here h = there w a b h here
     beyond-on v u w a b (there x c d g r) h = there x c d g (beyond-on x u w a b r h)
 
@@ -216,19 +216,19 @@ module _ (t : Tree) (p : Planted t) where
       pub facing : (u : ℕ) → 1 ≤ u → u ≤ t .nodes → NoGap t u → Facing t u (next t s u)
       facing u a b k = facing-beyond s u (rw at-sink facing-sink) (every u a b k)
 
-      fed-beyond : (v u : ℕ) → 1 ≤ v → v ≤ t .nodes → (v ≡ u → ⊥) → Beyond t s v u → feeds t (next t s u) (next t s (next t s u)) u ≡ true
+      fed-beyond : (v u : ℕ) → 1 ≤ v → v ≤ t .nodes → (v ≡ u → ⊥) → Beyond t s v u → otherNeighbour t (next t s u) (next t s (next t s u)) u ≡ true
       fed-beyond v u v1 vn m here = absurd (m refl)
       fed-beyond v u v1 vn m (there w a b g r) = by (ℕ-discrete w u) (λ k. fed-beyond w u a b k r)
         where
           n : next t s w ≡ v
           n = next-step v w v1 vn a b g
 
-          by : Dec (w ≡ u) → ((w ≡ u → ⊥) → feeds t (next t s u) (next t s (next t s u)) u ≡ true) → feeds t (next t s u) (next t s (next t s u)) u ≡ true
-          by (yes e) ih = subst (λ (x : ℕ). feeds t (next t s x) (next t s (next t s x)) x ≡ true) e (rw n g)
+          by : Dec (w ≡ u) → ((w ≡ u → ⊥) → otherNeighbour t (next t s u) (next t s (next t s u)) u ≡ true) → otherNeighbour t (next t s u) (next t s (next t s u)) u ≡ true
+          by (yes e) ih = subst (λ (x : ℕ). otherNeighbour t (next t s x) (next t s (next t s x)) x ≡ true) e (rw n g)
           by (no k) ih = ih k
 
       -- and is among those that feed it
-      pub fed : (u : ℕ) → 1 ≤ u → u ≤ t .nodes → NoGap t u → (u ≡ s → ⊥) → feeds t (next t s u) (next t s (next t s u)) u ≡ true
+      pub fed : (u : ℕ) → 1 ≤ u → u ≤ t .nodes → NoGap t u → (u ≡ s → ⊥) → otherNeighbour t (next t s u) (next t s (next t s u)) u ≡ true
       fed u a b k m = fed-beyond s u s-one s-known (λ e. m (sym e)) (every u a b k)
 
       next-beyond : (v u : ℕ) → 1 ≤ v → v ≤ t .nodes → (v ≡ u → ⊥) → Beyond t s v u → (1 ≤ next t s u) × (next t s u ≤ t .nodes)
@@ -247,7 +247,7 @@ module _ (t : Tree) (p : Planted t) where
       next-node u a b k m = next-beyond s u s-one s-known (λ e. m (sym e)) (every u a b k)
 
       -- where it leads is a node too
-      near-no-gap : (v from w : ℕ) → 1 ≤ v → v ≤ t .nodes → NoGap t v → feeds t v from w ≡ true → NoGap t w
+      near-no-gap : (v from w : ℕ) → 1 ≤ v → v ≤ t .nodes → NoGap t v → otherNeighbour t v from w ≡ true → NoGap t w
       near-no-gap v from w v1 vn k g = by (steps.next t v from w g .side)
         where
           by : (t .parent w ≡ v) ⊎ (t .parent v ≡ w) → NoGap t w
@@ -286,22 +286,22 @@ module _ (t : Tree) (p : Planted t) where
 
       -- ---- whose superframe a link lies in
 
-      -- a router's own, where the sink lies below it, and else its parent's
-      next-none : (v : ℕ) → (v ≡ s → ⊥) → below t s v ≡ 0 → next t s v ≡ t .parent v
-      unfolding below
+      -- a router's own, where the sink lies childTowards it, and else its parent's
+      next-none : (v : ℕ) → (v ≡ s → ⊥) → childTowards t s v ≡ 0 → next t s v ≡ t .parent v
+      unfolding childTowards
       next-none v m e = next-up v m e
 
       pub superframe-node : (v : ℕ) → 1 ≤ v → v ≤ t .nodes → NoGap t v → (v ≡ s → ⊥) → (1 ≤ superframeOf t s v) × (superframeOf t s v ≤ t .nodes)
       unfolding superframeOf
-      superframe-node v one most k m = by (below t s v) refl
+      superframe-node v one most k m = by (childTowards t s v) refl
         where
-          by : (c : ℕ) → below t s v ≡ c → (1 ≤ superframeBy c v (t .parent v)) × (superframeBy c v (t .parent v) ≤ t .nodes)
+          by : (c : ℕ) → childTowards t s v ≡ c → (1 ≤ superframeBy c v (t .parent v)) × (superframeBy c v (t .parent v) ≤ t .nodes)
           by zero e = let z : next t s v ≡ t .parent v = next-none v m e in rw z at (next-node v one most k m)
           by (suc c) e = (one, most)
 
-      -- the sink lies below a node exactly where its neighbour towards the sink has a larger number
-      pub leads-down : (v : ℕ) → 1 ≤ v → v ≤ t .nodes → (v ≡ s → ⊥) → ltb v (next t s v) ≡ leb 1 (below t s v)
-      unfolding below
+      -- the sink lies childTowards a node exactly where its neighbour towards the sink has a larger number
+      pub leads-down : (v : ℕ) → 1 ≤ v → v ≤ t .nodes → (v ≡ s → ⊥) → ltb v (next t s v) ≡ leb 1 (childTowards t s v)
+      unfolding childTowards
       leads-down v one most m = by (decLe 1 (childBy (t .nodes) t s v))
         where
           by : Dec (1 ≤ childBy (t .nodes) t s v) → ltb v (next t s v) ≡ leb 1 (childBy (t .nodes) t s v)
@@ -312,7 +312,7 @@ module _ (t : Tree) (p : Planted t) where
 
       pub superframe-led : (v : ℕ) → 1 ≤ v → v ≤ t .nodes → (v ≡ s → ⊥) → cond (ltb v (next t s v)) v (t .parent v) ≡ superframeOf t s v
       unfolding superframeOf
-      superframe-led v one most m = rw (leads-down v one most m) (by (below t s v))
+      superframe-led v one most m = rw (leads-down v one most m) (by (childTowards t s v))
         where
           by : (c : ℕ) → cond (leb 1 c) v (t .parent v) ≡ superframeBy c v (t .parent v)
           by zero = refl

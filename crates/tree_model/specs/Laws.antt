@@ -18,7 +18,7 @@ use Rattle.plan_model.specs.declared.Kind.the-variants.{Sink}
 use Rattle.plan_model.specs.Times.{timingOf, superframes}
 use Rattle.plan_model.specs.Lines.{sameKind}
 use Rattle.plan_model.specs.declared.NodeLine.{NodeLine}
-use Rattle.tree_model.specs.Tree.{Tree, treeOf, Planted, Ranged, Plain, sumTo, isRouter, routers}
+use Rattle.tree_model.specs.Tree.{Tree, treeOf, Rooted, Ranged, Plain, sumTo, isRouter, routers}
 use Rattle.tree_model.specs.Loads.{sensed, leaving}
 use Rattle.tree_model.specs.Lines.{loadAt, lineAt, lines}
 use Rattle.tree_model.specs.Checks.{reservationsAt, usedAt, reservableAt}
@@ -28,7 +28,7 @@ use Rattle.tree_model.specs.Promise.{longest, Windows, Held, Keeps}
 
 -- a tree that keeps number 10: its node list keeps every rule, numbers its nodes 1, 2, .., and the sink is one of them
 pub record Surveyed (t : Tree) (sink : ℕ) : Type 0 where
-  pub planted : Planted t
+  pub planted : Rooted t
   pub ranged : Ranged t
   pub plain : Plain t
   pub sinkSome : 1 ≤ sink

@@ -4,13 +4,9 @@ use Prim.Native.Nat.{ℕ, zero, suc, _+_, _*_}
 use Rattle.measure.specs.Measures.{frames, burst}
 use Rattle.links.specs.declared.Timing.{Timing}
 use Rattle.links.specs.declared.Load.{Load}
-use Rattle.links.specs.Link.{load, plus, after}
-use Rattle.tree_model.specs.Tree.{Tree, feeds}
+use Rattle.links.specs.Link.{load, noLoad, plus, after}
+use Rattle.tree_model.specs.Tree.{Tree, otherNeighbour}
 use Rattle.tree_model.specs.Ways.{next}
-
--- no load
-abbrev pub none : Load
-none = load 0 0
 
 -- what a node's own sensor makes, as document 01's sensor: ρ = RATE, β = BURST × BI; a summary's burst is in frame-symbols as it stands
 abbrev pub sensed : Timing → Tree → ℕ → Load
@@ -31,13 +27,13 @@ gather a f (suc n) = plus (gather a f n) (f (suc n))
 -- and the Bool says whether there is such a link: the two equations themselves, without steps, are proofs/Steps `input-step`, `output-step`.
 unfoldable mutual
   pub inputBy : ℕ → Timing → Tree → ℕ → ℕ → Load
-  inputBy zero a t v from = none
-  inputBy (suc k) a t v from = gather (sensed a t v) (λ w. outputBy k (feeds t v from w) a t w v) (t .nodes)
+  inputBy zero a t v from = noLoad
+  inputBy (suc k) a t v from = gather (sensed a t v) (λ w. outputBy k (otherNeighbour t v from w) a t w v) (t .nodes)
 
   pub outputBy : ℕ → Bool → Timing → Tree → ℕ → ℕ → Load
-  outputBy zero b a t w v = none
+  outputBy zero b a t w v = noLoad
   outputBy (suc k) true a t w v = leaving a t w (inputBy k a t w v)
-  outputBy (suc k) false a t w v = none
+  outputBy (suc k) false a t w v = noLoad
 
 -- more steps than any way has
 abbrev pub steps : Tree → ℕ

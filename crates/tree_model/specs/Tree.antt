@@ -46,7 +46,7 @@ abbrev pub WithoutGaps : Tree → Type 0
 WithoutGaps t = (v : ℕ) → v ≤ t .nodes → NoGap t v
 
 -- "Node 1 is the root with PARENT 0; any other parent has a smaller number", and "is listed" (E12): it is in no gap
-pub record Planted (t : Tree) : Type 0 where
+pub record Rooted (t : Tree) : Type 0 where
   pub few : t .nodes ≤ 254
   pub root : t .parent 1 ≡ 0
   pub listed : (v : ℕ) → 1 ≤ v → v ≤ t .nodes → NoGap t (t .parent v)
@@ -101,8 +101,8 @@ isListed t v = (eqb v 1 || leb 1 (t .parent v)) && not (t .summary v)
 -- ---- neighbours
 
 -- w is a neighbour of v, its child or its parent, and not the one at `from`
-abbrev pub feeds : Tree → ℕ → ℕ → ℕ → Bool
-feeds t v from w = not (eqb w from) && (eqb (t .parent w) v || eqb (t .parent v) w)
+abbrev pub otherNeighbour : Tree → ℕ → ℕ → ℕ → Bool
+otherNeighbour t v from w = not (eqb w from) && (eqb (t .parent w) v || eqb (t .parent v) w)
 
 -- v is a number of the list, and `from` is a neighbour of v, or 0
 pub record Facing (t : Tree) (v from : ℕ) : Type 0 where

@@ -6,8 +6,8 @@ use Prim.Native.Nat.{ℕ, zero, suc}
 use lib.Dec.{eqb}
 use lib.ListN.{getD}
 use Rattle.settings_model.specs.declared.Radio.{Radio}
-use Rattle.tree_model.specs.Tree.{Tree, treeOf, Planted, isNumber, isRouter, routers}
-use Rattle.tree_model.specs.Ways.{childBy, below, orElse, next, kindOf, depthBy, depthOf}
+use Rattle.tree_model.specs.Tree.{Tree, treeOf, Rooted, isNumber, isRouter, routers}
+use Rattle.tree_model.specs.Ways.{childBy, childTowards, orElse, next, kindOf, depthBy, depthOf}
 use Rattle.tree_model.specs.Lines.{wayDelay}
 use Rattle.tree_model.specs.Checks.{routersFit}
 use Rattle.tree_read_model.specs.Survey.{sinkRight}
@@ -17,7 +17,7 @@ module _ (ps bs rs : List ℕ) where
   abbrev T : Tree
   T = treeOf ps bs rs
 
-  pub planted-shape : Planted T → Planted (shape ps)
+  pub planted-shape : Rooted T → Rooted (shape ps)
   planted-shape p = record { few = p .few; root = p .root; listed = p .listed; smaller = p .smaller }
 
   child-same : (k c v : ℕ) → childBy k (shape ps) c v ≡ childBy k T c v
@@ -31,15 +31,15 @@ module _ (ps bs rs : List ℕ) where
       by true e = refl
       by false e = e
 
-  below-same : (s v : ℕ) → below (shape ps) s v ≡ below T s v
-  unfolding below
+  below-same : (s v : ℕ) → childTowards (shape ps) s v ≡ childTowards T s v
+  unfolding childTowards
   below-same s v = child-same (T .nodes) s v
 
   pub next-same : (s v : ℕ) → next (shape ps) s v ≡ next T s v
   unfolding next
   next-same s v = by (eqb v s)
     where
-      by : (b : Bool) → _≡_ {A = ℕ} (elim b [ true ↦ 0 | false ↦ orElse (below (shape ps) s v) (getD ps v 0) ]) (elim b [ true ↦ 0 | false ↦ orElse (below T s v) (getD ps v 0) ])
+      by : (b : Bool) → _≡_ {A = ℕ} (elim b [ true ↦ 0 | false ↦ orElse (childTowards (shape ps) s v) (getD ps v 0) ]) (elim b [ true ↦ 0 | false ↦ orElse (childTowards T s v) (getD ps v 0) ])
       by true = refl
       by false = ap (λ (c : ℕ). orElse c (getD ps v 0)) (below-same s v)
 

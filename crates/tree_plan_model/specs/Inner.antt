@@ -13,7 +13,7 @@ use Rattle.links.specs.declared.Load.{Load}
 use Rattle.links.specs.declared.Timing.{Timing}
 use Rattle.links.specs.Link.{load}
 use Rattle.links.specs.Answers.{Timed}
-use Rattle.tree_model.specs.Tree.{Tree, treeOf, Planted, Ranged, WithoutGaps}
+use Rattle.tree_model.specs.Tree.{Tree, treeOf, Rooted, Ranged, WithoutGaps}
 use Rattle.tree_model.specs.Ways.{next, Beyond}
 use Rattle.tree_model.specs.Loads.{inputOf}
 use Rattle.tree_model.specs.Checks.{routersFit, conditions}
@@ -33,7 +33,7 @@ pub record Listing (ps bs rs : List ℕ) : Type 0 where
   pub some : 2 ≤ length ps
   pub bursts : length bs ≡ length ps
   pub rates : length rs ≡ length ps
-  pub planted : Planted (treeOf ps bs rs)
+  pub planted : Rooted (treeOf ps bs rs)
   pub ranged : Ranged (treeOf ps bs rs)
   pub withoutGaps : WithoutGaps (treeOf ps bs rs)
 

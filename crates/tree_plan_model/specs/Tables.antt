@@ -21,7 +21,7 @@ use Rattle.links.specs.Link.{slotsOf, figuresOf}
 use Rattle.links.specs.Answers.{Timed}
 use Rattle.plan_model.specs.Lines.{noFigures, line}
 use Rattle.plan_model.specs.declared.NodeLine.{NodeLine}
-use Rattle.tree_model.specs.Tree.{Planted, WithoutGaps, sumTo}
+use Rattle.tree_model.specs.Tree.{Rooted, WithoutGaps, sumTo}
 use Rattle.tree_model.specs.Ways.{next, kindOf, depthOf}
 use Rattle.tree_model.specs.Loads.{steps}
 use Rattle.tree_model.specs.Lines.{wayDelay}
@@ -45,7 +45,7 @@ pub record Loaded (a : Timing) (ps ns : List ℕ) : Type 0 where
 -- a tree, and each node's neighbour towards the sink
 pub record Led (ps ns : List ℕ) (sink : ℕ) : Type 0 where
   pub some : 1 ≤ length ps
-  pub planted : Planted (shape ps)
+  pub planted : Rooted (shape ps)
   pub withoutGaps : WithoutGaps (shape ps)
   pub sinkSome : 1 ≤ sink
   pub sinkKnown : sink < length ps

@@ -6,7 +6,7 @@ ghost use lib.Seq.{sets};
 ghost use Rattle.refusals.specs.declared.Verdict.the-variants.{Kept, Broken};
 ghost use Rattle.refusals.specs.declared.Refusal.the-variants.{Unreadable};
 ghost use Rattle.refusals.specs.Conditions.{firstBroken};
-ghost use Rattle.tree_program_model.specs.Output.{valueOf, lossIn, argued, argumentConditions, radioOf, sinkOf, treeOutput};
+ghost use Rattle.tree_program_model.specs.Output.{valueOf, lossIn, argumentsRead, argumentConditions, radioOf, sinkOf, treeOutput};
 use decimal_model::Number;
 use program_model::LIMIT;
 use refusals::Refusal;
@@ -51,7 +51,7 @@ fn check_call(arguments: Arguments, input: &[u8]) -> Verdict
 
 // Number 2: an argument that cannot be read, at its column in a row; one argument more, where column 14 would be.
 fn check_arguments(arguments: Arguments) -> Verdict
-    ensures { λ r. ⌜ r ≡ firstBroken Broken Kept (argued arguments) ⌝ }
+    ensures { λ r. ⌜ r ≡ firstBroken Broken Kept (argumentsRead arguments) ⌝ }
 {
     let bo = arguments.bo;
     if let Number::Unreadable = bo {

@@ -9,12 +9,12 @@ use Rattle.tree_read_model.proofs.Computing.{lists}
 use Rattle.report_model.specs.Text.{numbers, refusalText}
 use Rattle.report_model.specs.TreeText.{treeHeader, nodeText, treeText}
 use Rattle.program_model.specs.Printed.{printed, tooLong}
-use Rattle.tree_program_model.specs.Output.{valueOf, isUnreadable, lossIn, argued, radioOf, sinkOf, argumentConditions, callOutcome, treeOutput}
+use Rattle.tree_program_model.specs.Output.{valueOf, isUnreadable, lossIn, argumentsRead, radioOf, sinkOf, argumentConditions, callOutcome, treeOutput}
 use Rattle.tree_program_model.specs.Examples.{argumentAt, argumentsIn, balancedList, common, brokenList, examples, ours, ExamplesHold}
 
 -- to unfold `outputs` is to unfold all that an output is computed with
 outputs : Type 0
-unfolding lists digitsBy decimal numberIn joined ended conflictPlace treeNumber treePlace numberOf placeOf letter numbers refusalText treeHeader nodeText treeText tooLong valueOf isUnreadable lossIn argued radioOf sinkOf argumentConditions callOutcome printed treeOutput argumentAt argumentsIn
+unfolding lists digitsBy decimal numberIn joined ended conflictPlace treeNumber treePlace numberOf placeOf letter numbers refusalText treeHeader nodeText treeText tooLong valueOf isUnreadable lossIn argumentsRead radioOf sinkOf argumentConditions callOutcome printed treeOutput argumentAt argumentsIn
 outputs = Unit
 
 pub examples-hold : ExamplesHold

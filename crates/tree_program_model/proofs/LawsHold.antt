@@ -29,7 +29,7 @@ use Rattle.report_model.specs.TreeText.{treeHeader, treeText}
 use Rattle.report_model.proofs.OneTreeText.{one-text-for-trees}
 use Rattle.program_model.specs.Printed.{printed, tooLong}
 use Rattle.settings_model.specs.declared.Radio.{Radio}
-use Rattle.tree_program_model.specs.Output.{lossIn, argued, radioOf, sinkOf, argumentConditions, callOutcome, treeOutput}
+use Rattle.tree_program_model.specs.Output.{lossIn, argumentsRead, radioOf, sinkOf, argumentConditions, callOutcome, treeOutput}
 use Rattle.tree_program_model.specs.Laws.{NotGivenIsZero, LongInputs, TenBeforeTwo, ReadArguments, PrintedLinesKeep}
 use Rattle.tree_program_model.proofs.Outputs.{too-long, ten-broken, two-next, call-refused, call-planned, output-refused}
 
@@ -73,7 +73,7 @@ printed-lines-keep a input p e = by (callOutcome a input) refl e where
   by (Planned l) q w =
       let checked = conditions b (treeIn input) sink in
       let u = planned-unbroken own l (argumentConditions a input ++ checked) q in
-      let s = unbroken-right (tooLong input) (surveyed input sink) (unbroken-left (tooLong input ++ surveyed input sink) (argued a) (unbroken-left (argumentConditions a input) checked (u .0))) in
+      let s = unbroken-right (tooLong input) (surveyed input sink) (unbroken-left (tooLong input ++ surveyed input sink) (argumentsRead a) (unbroken-left (argumentConditions a input) checked (u .0))) in
       let c = unbroken-right (argumentConditions a input) checked (u .0) in
       let same : l ≡ p = one-text-for-trees l p w in
       every-text-keeps input b sink p
@@ -82,5 +82,5 @@ printed-lines-keep a input p e = by (callOutcome a input) refl e where
 -- ---- LOSS that is not given
 
 pub not-given-is-zero : NotGivenIsZero
-unfolding treeOutput callOutcome argumentConditions argued lossIn radioOf sinkOf
+unfolding treeOutput callOutcome argumentConditions argumentsRead lossIn radioOf sinkOf
 not-given-is-zero bo so head payload ack sink loss count input h = rw (le-ltb 6 count h, le-ltb 7 count (omega arith))

@@ -26,7 +26,7 @@ use Rattle.tree_model.specs.Checks.{conditions}
 use Rattle.refusals.specs.Outcome.{Planned, Refused}
 use Rattle.tree_read_model.specs.Survey.{treeIn, surveyed, outcomeIn}
 use Rattle.tree_program_model.specs.declared.Arguments.{Arguments}
-use Rattle.tree_program_model.specs.Output.{isUnreadable, lossIn, argued, radioOf, sinkOf, argumentConditions, callOutcome, treeOutput}
+use Rattle.tree_program_model.specs.Output.{isUnreadable, lossIn, argumentsRead, radioOf, sinkOf, argumentConditions, callOutcome, treeOutput}
 
 -- ---- numbers 9, 10 and 2
 
@@ -45,19 +45,19 @@ module _ (a : Arguments) (input : List ℕ) where
   pub too-long : 65536 < length input → Broken InputTooLong ≡ verdict (argumentConditions a input)
   unfolding argumentConditions
   too-long h =
-      first-part-answers Broken Kept (tooLong input ++ list) (argued a) InputTooLong
+      first-part-answers Broken Kept (tooLong input ++ list) (argumentsRead a) InputTooLong
       (sym (first-part-answers Broken Kept (tooLong input) list InputTooLong (long-enough input h)))
 
   module _ (h : length input ≤ 65536) where
     pub ten-broken : (r : Refusal) → verdict list ≡ Broken r → Broken r ≡ verdict (argumentConditions a input)
     unfolding argumentConditions
     ten-broken r e =
-        first-part-answers Broken Kept (tooLong input ++ list) (argued a) r (sym (second-part-answers Broken Kept (tooLong input) list (not-long input h)) ∙ e)
+        first-part-answers Broken Kept (tooLong input ++ list) (argumentsRead a) r (sym (second-part-answers Broken Kept (tooLong input) list (not-long input h)) ∙ e)
 
-    pub two-next : verdict list ≡ Kept → verdict (argued a) ≡ verdict (argumentConditions a input)
+    pub two-next : verdict list ≡ Kept → verdict (argumentsRead a) ≡ verdict (argumentConditions a input)
     unfolding argumentConditions
     two-next e =
-        second-part-answers Broken Kept (tooLong input ++ list) (argued a) (sym (second-part-answers Broken Kept (tooLong input) list (not-long input h)) ∙ e)
+        second-part-answers Broken Kept (tooLong input ++ list) (argumentsRead a) (sym (second-part-answers Broken Kept (tooLong input) list (not-long input h)) ∙ e)
 
 -- ---- number 2, argument by argument
 
@@ -70,42 +70,42 @@ unfolding isUnreadable
 some-read n v e = rw e
 
 module _ (a : Arguments) where
-  pub two-at-bo : isUnreadable (a .bo) ≡ true → Broken (Unreadable 1) ≡ verdict (argued a)
-  unfolding argued firstBroken
+  pub two-at-bo : isUnreadable (a .bo) ≡ true → Broken (Unreadable 1) ≡ verdict (argumentsRead a)
+  unfolding argumentsRead firstBroken
   two-at-bo e = rw e
 
   module _ (bo : isUnreadable (a .bo) ≡ false) where
-    pub two-at-so : isUnreadable (a .so) ≡ true → Broken (Unreadable 2) ≡ verdict (argued a)
-    unfolding argued firstBroken
+    pub two-at-so : isUnreadable (a .so) ≡ true → Broken (Unreadable 2) ≡ verdict (argumentsRead a)
+    unfolding argumentsRead firstBroken
     two-at-so e = rw (bo, e)
 
     module _ (so : isUnreadable (a .so) ≡ false) where
-      pub two-at-head : isUnreadable (a .head) ≡ true → Broken (Unreadable 10) ≡ verdict (argued a)
-      unfolding argued firstBroken
+      pub two-at-head : isUnreadable (a .head) ≡ true → Broken (Unreadable 10) ≡ verdict (argumentsRead a)
+      unfolding argumentsRead firstBroken
       two-at-head e = rw (bo, so, e)
 
       module _ (head : isUnreadable (a .head) ≡ false) where
-        pub two-at-data : isUnreadable (a .payload) ≡ true → Broken (Unreadable 11) ≡ verdict (argued a)
-        unfolding argued firstBroken
+        pub two-at-data : isUnreadable (a .payload) ≡ true → Broken (Unreadable 11) ≡ verdict (argumentsRead a)
+        unfolding argumentsRead firstBroken
         two-at-data e = rw (bo, so, head, e)
 
         module _ (payload : isUnreadable (a .payload) ≡ false) where
-          pub two-at-ack : isUnreadable (a .ack) ≡ true → Broken (Unreadable 12) ≡ verdict (argued a)
-          unfolding argued firstBroken
+          pub two-at-ack : isUnreadable (a .ack) ≡ true → Broken (Unreadable 12) ≡ verdict (argumentsRead a)
+          unfolding argumentsRead firstBroken
           two-at-ack e = rw (bo, so, head, payload, e)
 
           module _ (ack : isUnreadable (a .ack) ≡ false) where
-            pub two-at-loss : isUnreadable (lossIn a) ≡ true → Broken (Unreadable 13) ≡ verdict (argued a)
-            unfolding argued firstBroken
+            pub two-at-loss : isUnreadable (lossIn a) ≡ true → Broken (Unreadable 13) ≡ verdict (argumentsRead a)
+            unfolding argumentsRead firstBroken
             two-at-loss e = rw (bo, so, head, payload, ack, e)
 
             module _ (loss : isUnreadable (lossIn a) ≡ false) where
-              pub two-after : 7 < a .count → Broken (TextAfter 14) ≡ verdict (argued a)
-              unfolding argued firstBroken
+              pub two-after : 7 < a .count → Broken (TextAfter 14) ≡ verdict (argumentsRead a)
+              unfolding argumentsRead firstBroken
               two-after h = rw (bo, so, head, payload, ack, loss, lt-ltb 7 (a .count) h)
 
-              pub two-kept : a .count ≤ 7 → Kept ≡ verdict (argued a)
-              unfolding argued firstBroken
+              pub two-kept : a .count ≤ 7 → Kept ≡ verdict (argumentsRead a)
+              unfolding argumentsRead firstBroken
               two-kept h = rw (bo, so, head, payload, ack, loss, le-ltb 7 (a .count) h)
 
 -- ---- all that is printed
@@ -136,7 +136,7 @@ module _ (a : Arguments) (input : List ℕ) where
     unfolding argumentConditions
     list-kept =
         unbroken-first Broken Kept (surveyed input sink)
-        (unbroken-right (tooLong input) (surveyed input sink) (unbroken-left (tooLong input ++ surveyed input sink) (argued a) (kept-unbroken (argumentConditions a input) k)))
+        (unbroken-right (tooLong input) (surveyed input sink) (unbroken-left (tooLong input ++ surveyed input sink) (argumentsRead a) (kept-unbroken (argumentConditions a input) k)))
 
     -- where 9, 10 and 2 are kept, the text's outcome is the call's
     pub call-planned : outcomeIn input b sink ≡ callOutcome a input

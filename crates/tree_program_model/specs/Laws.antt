@@ -16,7 +16,7 @@ use Rattle.report_model.specs.Text.{refusalText}
 use Rattle.report_model.specs.TreeText.{treeText}
 use Rattle.program_model.specs.Printed.{printed}
 use Rattle.tree_program_model.specs.declared.Arguments.{Arguments}
-use Rattle.tree_program_model.specs.Output.{argued, radioOf, sinkOf, treeOutput}
+use Rattle.tree_program_model.specs.Output.{argumentsRead, radioOf, sinkOf, treeOutput}
 
 -- over 65,536 bytes one line is all, whatever they and the arguments are
 abbrev pub LongInputs : Type 0
@@ -29,7 +29,7 @@ TenBeforeTwo = (a : Arguments) (input : List ℕ) (r : Refusal) → length input
 
 -- arguments that can be read are settings beside and a sink, and what is printed is the text's outcome with them
 abbrev pub ReadArguments : Type 0
-ReadArguments = (a : Arguments) (input : List ℕ) → length input ≤ 65536 → firstBroken Broken Kept (argued a) ≡ Kept
+ReadArguments = (a : Arguments) (input : List ℕ) → length input ≤ 65536 → firstBroken Broken Kept (argumentsRead a) ≡ Kept
     → treeOutput a input ≡ printed treeText (outcomeIn input (radioOf a) (sinkOf a))
 
 -- LOSS that is not given is LOSS 0

@@ -36,8 +36,8 @@ lossIn a = cond (ltb 6 (a .count)) (a .loss) (number.Value 0)
 abbrev pub unread : Number → ℕ → Condition Refusal
 unread n column = condition (isUnreadable n) (Unreadable column)
 
-unfoldable pub argued : Arguments → List (Condition Refusal)
-argued a =
+unfoldable pub argumentsRead : Arguments → List (Condition Refusal)
+argumentsRead a =
     unread (a .bo) 1 ∷ unread (a .so) 2 ∷ unread (a .head) 10 ∷ unread (a .payload) 11 ∷ unread (a .ack) 12
     ∷ unread (lossIn a) 13
     ∷ condition (ltb 7 (a .count)) (TextAfter 14) ∷ []
@@ -51,7 +51,7 @@ sinkOf a = valueOf (a .sink)
 
 -- number 9 "comes before all others"; of these 10 is "before all others"; 2 comes before 3 as in document 01's table
 unfoldable pub argumentConditions : Arguments → List ℕ → List (Condition Refusal)
-argumentConditions a input = tooLong input ++ surveyed input (sinkOf a) ++ argued a
+argumentConditions a input = tooLong input ++ surveyed input (sinkOf a) ++ argumentsRead a
 
 -- then numbers 3 to 7, or the plan
 unfoldable pub callOutcome : Arguments → List ℕ → TreeOutcome

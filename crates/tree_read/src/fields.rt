@@ -3,12 +3,12 @@ ghost use mathlib.Core.Path.{_≡_};
 ghost use Rattle.tree_read_model.specs.Entries.{entryIn};
 use decimal_model::Number;
 use tree_read_model::Entry;
-use tree_read_model::Reading;
+use tree_read_model::NodeRead;
 
 const SPACE: u8 = 32;
 
 // The four values of a line, without its LF. A value is the run of bytes between single spaces.
-pub fn read_node(line: &[u8]) -> Reading
+pub fn read_node(line: &[u8]) -> NodeRead
     ensures { λ r. ⌜ r ≡ entryIn (now (line .entry)) ⌝ }
 {
     let mut numbers = [0u64; 4];
@@ -17,21 +17,21 @@ pub fn read_node(line: &[u8]) -> Reading
     let mut k = 0;
     while k < 4 {
         if line.len() < at {
-            return Reading::Unreadable;
+            return NodeRead::Unreadable;
         }
         let end = bytes::scan::find(line, at, line.len(), SPACE);
         let number = decimal::read_number(&line[at..end]);
         let Number::Value(v) = number else {
-            return Reading::Unreadable;
+            return NodeRead::Unreadable;
         };
         numbers[k] = v;
         at = end + 1;
         k += 1;
     }
     if at <= line.len() {
-        return Reading::Unreadable;
+        return NodeRead::Unreadable;
     }
-    Reading::Node(Entry {
+    NodeRead::Node(Entry {
         node: numbers[0],
         parent: numbers[1],
         burst: numbers[2],

@@ -9,22 +9,22 @@ use lib.Dec.{eqb, leb, ltb}
 use lib.ListN.{length, getD, length-map}
 use borrow.Author.Tests.{eqb-true, leb-true, ltb-true, ne-eqb, not-false}
 use Rattle.refusals.specs.Conditions.{Unbroken}
-use Rattle.settings_model.specs.Columns.{twelve, table, columnAt}
+use Rattle.settings_model.specs.Columns.{twelve, everyColumn, columnAt}
 use Rattle.tree_model.specs.Tree.{Ranged}
 use Rattle.tree_model.specs.Laws.{Surveyed, Consecutive}
 use Rattle.tree_model.proofs.PlainLists.{plain-list-surveyed}
-use Rattle.tree_read_model.specs.declared.Reading.{Reading}
-use Rattle.tree_read_model.specs.declared.Reading.the-variants.{Node, Unreadable}
+use Rattle.tree_read_model.specs.declared.NodeRead.{NodeRead}
+use Rattle.tree_read_model.specs.declared.NodeRead.the-variants.{Node, Unreadable}
 use Rattle.tree_read_model.specs.Entries.{entryIn, parentRight, sensorRight, entryRight, lineRight}
 use Rattle.tree_read_model.specs.Survey.{parentIn, burstIn, rateIn, treeFrom, linesFrom}
 
 -- what a line says that keeps the rules of node k
-pub record Says (k : ℕ) (r : Reading) : Type 0 where
+pub record Says (k : ℕ) (r : NodeRead) : Type 0 where
   pub few : k ≤ 254
   pub parent : parentRight k (parentIn r) ≡ true
   pub sensor : sensorRight (burstIn r) (rateIn r) ≡ true
 
-pub says : (k : ℕ) (r : Reading) → entryRight k r ≡ true → Says k r
+pub says : (k : ℕ) (r : NodeRead) → entryRight k r ≡ true → Says k r
 unfolding entryRight parentIn burstIn rateIn
 says k Unreadable e = absurd (false≢true e)
 says k (Node n) e =
@@ -67,7 +67,7 @@ pub record Sensor (b r : ℕ) : Type 0 where
   pub both : r ≡ 0 → b ≡ 0
 
 pub sensor-is : (b r : ℕ) → sensorRight b r ≡ true → Sensor b r
-unfolding sensorRight columnAt twelve table
+unfolding sensorRight columnAt twelve everyColumn
 sensor-is b r e = by (either (eqb b 0 && eqb r 0) ((leb 1 b && leb b 255) && (leb 1 r && leb r 4095)) e)
   where
     by : (eqb b 0 && eqb r 0 ≡ true) ⊎ ((leb 1 b && leb b 255) && (leb 1 r && leb r 4095) ≡ true) → Sensor b r

@@ -13,12 +13,12 @@ use Rattle.decimal_model.specs.declared.Number.the-variants.{Value, Unreadable 
 use Rattle.decimal_model.proofs.Spelling.{number-read, number-none}
 use Rattle.lines.specs.Text.{fields}
 use Rattle.lines.proofs.Cutting.{fieldsFrom, fields-first, fields-step, fields-past}
-use Rattle.tree_read_model.specs.declared.Reading.{Reading}
-use Rattle.tree_read_model.specs.declared.Reading.the-variants.{Node, Unreadable}
+use Rattle.tree_read_model.specs.declared.NodeRead.{NodeRead}
+use Rattle.tree_read_model.specs.declared.NodeRead.the-variants.{Node, Unreadable}
 use Rattle.tree_read_model.specs.Entries.{entryOf, entryIn}
 
 -- a node of four values
-unfoldable pub finish : List ℕ → Reading
+unfoldable pub finish : List ℕ → NodeRead
 finish [] = Unreadable
 finish (n ∷ []) = Unreadable
 finish (n ∷ p ∷ []) = Unreadable
@@ -26,7 +26,7 @@ finish (n ∷ p ∷ b ∷ []) = Unreadable
 finish (n ∷ p ∷ b ∷ r ∷ vs) = Node (record { node = n; parent = p; burst = b; rate = r })
 
 -- m values are left to be taken, behind those that were
-unfoldable pub taking : ℕ → List ℕ → List (List ℕ) → Reading
+unfoldable pub taking : ℕ → List ℕ → List (List ℕ) → NodeRead
 taking zero vs [] = finish vs
 taking zero vs (f ∷ fs) = Unreadable
 taking (suc m) vs [] = Unreadable
@@ -56,7 +56,7 @@ taking-four (n ∷ p ∷ b ∷ []) = by (readable n) (readable p) (readable b)
     by false y z = refl
 taking-four (n ∷ p ∷ b ∷ r ∷ []) = by (readable n) (readable p) (readable b) (readable r) (Node (record { node = spelled n; parent = spelled p; burst = spelled b; rate = spelled r }))
   where
-    by : (x y z w : Bool) (e : Reading) → cond x (cond y (cond z (cond w e Unreadable) Unreadable) Unreadable) Unreadable ≡ cond (x && y && z && w) e Unreadable
+    by : (x y z w : Bool) (e : NodeRead) → cond x (cond y (cond z (cond w e Unreadable) Unreadable) Unreadable) Unreadable ≡ cond (x && y && z && w) e Unreadable
     by true true true w e = refl
     by true true false w e = refl
     by true false z w e = refl

@@ -7,8 +7,8 @@ use Rattle.decimal_model.specs.Ascii.{ascii}
 use Rattle.decimal_model.specs.Number.{readable, spelled}
 use Rattle.lines.specs.Text.{same, fields}
 use Rattle.settings_model.specs.Columns.{columnAt, inRange}
-use Rattle.tree_read_model.specs.declared.Reading.{Reading}
-use Rattle.tree_read_model.specs.declared.Reading.the-variants.{Node, Unreadable}
+use Rattle.tree_read_model.specs.declared.NodeRead.{NodeRead}
+use Rattle.tree_read_model.specs.declared.NodeRead.the-variants.{Node, Unreadable}
 
 -- "After a line `NODE PARENT BURST RATE` come the nodes"
 unfoldable pub nameLine : List ℕ
@@ -18,7 +18,7 @@ unfoldable pub isNameLine : List ℕ → Bool
 isNameLine line = same line nameLine
 
 -- the four values of a line, one space between, each written as document 01's values are: "1 to 4 digits, no leading zero except 0 itself"
-unfoldable pub entryOf : List (List ℕ) → Reading
+unfoldable pub entryOf : List (List ℕ) → NodeRead
 entryOf [] = Unreadable
 entryOf (n ∷ []) = Unreadable
 entryOf (n ∷ p ∷ []) = Unreadable
@@ -29,7 +29,7 @@ entryOf (n ∷ p ∷ b ∷ r ∷ []) =
     Unreadable
 entryOf (n ∷ p ∷ b ∷ r ∷ x ∷ xs) = Unreadable
 
-unfoldable pub entryIn : List ℕ → Reading
+unfoldable pub entryIn : List ℕ → NodeRead
 entryIn line = entryOf (fields line)
 
 -- "Node 1 is the root with PARENT 0; any other parent has a smaller number."
@@ -41,7 +41,7 @@ unfoldable pub sensorRight : ℕ → ℕ → Bool
 sensorRight b r = (eqb b 0 && eqb r 0) || (inRange (columnAt 7) b && inRange (columnAt 8) r)
 
 -- the line of node k: "the nodes 1, 2, .. in order", at most 254
-unfoldable pub entryRight : ℕ → Reading → Bool
+unfoldable pub entryRight : ℕ → NodeRead → Bool
 entryRight k Unreadable = false
 entryRight k (Node e) = leb k 254 && eqb (e .node) k && parentRight k (e .parent) && sensorRight (e .burst) (e .rate)
 

@@ -13,7 +13,7 @@ use Rattle.settings_model.specs.Checks.{radio}
 use Rattle.refusals.specs.Outcome.{Planned, Refused}
 use Rattle.tree_model.specs.Outcome.{TreeOutcome}
 use Rattle.tree_model.specs.Examples.{nodeColumns, common}
-use Rattle.tree_read_model.specs.declared.Reading.the-variants.{Node, Unreadable}
+use Rattle.tree_read_model.specs.declared.NodeRead.the-variants.{Node, Unreadable}
 use Rattle.tree_read_model.specs.Entries.{nameLine, entryIn}
 use Rattle.tree_read_model.specs.Survey.{outcomeIn}
 

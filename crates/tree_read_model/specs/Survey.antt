@@ -14,8 +14,8 @@ use Rattle.tree_model.specs.Lines.{lines}
 use Rattle.tree_model.specs.Checks.{conditions}
 use Rattle.refusals.specs.Outcome.{Planned, Refused}
 use Rattle.tree_model.specs.Outcome.{TreeOutcome}
-use Rattle.tree_read_model.specs.declared.Reading.{Reading}
-use Rattle.tree_read_model.specs.declared.Reading.the-variants.{Node, Unreadable}
+use Rattle.tree_read_model.specs.declared.NodeRead.{NodeRead}
+use Rattle.tree_read_model.specs.declared.NodeRead.the-variants.{Node, Unreadable}
 use Rattle.tree_read_model.specs.Entries.{isNameLine, entryIn, lineRight}
 
 -- ---- the tree
@@ -25,15 +25,15 @@ unfoldable pub nodeLines : List ℕ → List (List ℕ)
 nodeLines input = drop 1 (text.lines input)
 
 -- what a line says of its node; 0 where it cannot be read, in a text that number 10 refuses
-unfoldable pub parentIn : Reading → ℕ
+unfoldable pub parentIn : NodeRead → ℕ
 parentIn (Node e) = e .parent
 parentIn Unreadable = 0
 
-unfoldable pub burstIn : Reading → ℕ
+unfoldable pub burstIn : NodeRead → ℕ
 burstIn (Node e) = e .burst
 burstIn Unreadable = 0
 
-unfoldable pub rateIn : Reading → ℕ
+unfoldable pub rateIn : NodeRead → ℕ
 rateIn (Node e) = e .rate
 rateIn Unreadable = 0
 

@@ -10,7 +10,7 @@ pub struct Entry {
 }
 
 // What a line says: a node, or nothing that can be read.
-pub enum Reading {
+pub enum NodeRead {
     Node(Entry),
     Unreadable,
 }

@@ -4,7 +4,7 @@ use mathlib.Core.List.{List}
 use Prim.Native.Nat.{ℕ, _+_, _-_, _≤_, _<_}
 use native.Mathlib.Omega.{arith}
 use lib.ListN.{length, getD, set}
-use Rattle.tree_model.specs.Tree.{Planted, WithoutGaps}
+use Rattle.tree_model.specs.Tree.{Rooted, WithoutGaps}
 use Rattle.tree_model.specs.Ways.{depthOf}
 use Rattle.tree_model.proofs.Shapes.{depth-root, depth-step, depth-most}
 use Rattle.tree_plan_model.specs.Inner.{shape}
@@ -18,7 +18,7 @@ module _ (ps : List ℕ) where
   pub depths-all : (n : ℕ) (hs : List ℕ) → length ps - 1 ≤ n → DepthsTo ps n hs → DepthsSet ps hs
   depths-all n hs l d = record { each = λ v a b. d .each v a (omega arith) }
 
-  module _ (p : Planted (shape ps)) (n : ℕ) (h : n + 1 < length ps) (hs : List ℕ) (size : length hs ≡ 256) (d : DepthsTo ps n hs) where
+  module _ (p : Rooted (shape ps)) (n : ℕ) (h : n + 1 < length ps) (hs : List ℕ) (size : length hs ≡ 256) (d : DepthsTo ps n hs) where
     few : n + 1 < length hs
     few = omega (arith, h, size, p .few)
 

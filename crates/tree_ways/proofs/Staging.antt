@@ -13,7 +13,7 @@ use Rattle.settings_model.specs.declared.Radio.{Radio}
 use Rattle.settings_model.specs.Checks.{radioChecks}
 use Rattle.plan_model.specs.Times.{timingAnswered, timingOf}
 use Rattle.plan_model.proofs.TimesMade.{timing-fits}
-use Rattle.tree_model.specs.Tree.{Planted, WithoutGaps}
+use Rattle.tree_model.specs.Tree.{Rooted, WithoutGaps}
 use Rattle.tree_model.specs.Checks.{routersFit, routersFrom, conditions}
 use Rattle.tree_read_model.specs.Survey.{treeIn, surveyed}
 use Rattle.tree_plan_model.specs.Inner.{shape}
@@ -49,7 +49,7 @@ module _ (input : List ℕ) (b : Radio) (sink : ℕ) where
         refused = λ x q. broken-kept x (sym q ∙ k);
       }
 
-    pub depths-asked : (1 ≤ length (take (n + 1) ks)) × Planted (shape (take (n + 1) ks)) × WithoutGaps (shape (take (n + 1) ks))
+    pub depths-asked : (1 ≤ length (take (n + 1) ks)) × Rooted (shape (take (n + 1) ks)) × WithoutGaps (shape (take (n + 1) ks))
     depths-asked =
         let l = tabled input b sink n ks ns (timingOf b) refl H .leads in
         rw (parents-held input b sink n ks ns H) (l .some, l .planted, l .withoutGaps)

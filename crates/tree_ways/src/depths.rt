@@ -2,14 +2,14 @@
 ghost use mathlib.Core.Path.{_≡_};
 ghost use Prim.Native.Nat.{_≤_};
 ghost use lib.ListN.{length};
-ghost use Rattle.tree_model.specs.Tree.{Planted, WithoutGaps};
+ghost use Rattle.tree_model.specs.Tree.{Rooted, WithoutGaps};
 ghost use Rattle.tree_plan_model.specs.Inner.{shape};
 ghost use Rattle.tree_plan_model.specs.Filled.{DepthsSet};
 
 // Sets the depths, each from the parent's, whose number is smaller.
 pub(crate) fn set_depths(parents: &[u8], depths: &mut [u8])
     requires { ⌜ 1 ≤ length (now parents) ⌝ }
-    requires { ⌜ Planted (shape (now parents)) ⌝ }
+    requires { ⌜ Rooted (shape (now parents)) ⌝ }
     requires { ⌜ WithoutGaps (shape (now parents)) ⌝ }
     requires { ⌜ length (now depths) ≡ 256 ⌝ }
     ensures { λ _. ⌜ DepthsSet (now (parents .entry)) (now (depths .exit)) ⌝ }

@@ -1,7 +1,7 @@
 -- `calls::answer_of` meets its contract. Assumes nothing.
 use mathlib.Core.Path.{refl}
 use borrow.Author.Needs.{needs}
-use Rattle.calls_model.specs.Calls.{toldRefusal}
+use Rattle.calls_model.specs.Calls.{answerToRefusal}
 use Rattle.calls_model.specs.Inner.{answerBy, answerOf}
 use Rattle.calls.proofs.answer_of.Statement.{statement}
 use Rattle.calls.proofs.answer_of.Tie as tie
@@ -13,7 +13,7 @@ refused-requires : tie.Need-refused-requires
 refused-requires c κs = search needs
 
 returns : tie.Need-returns
-unfolding answerOf answerBy toldRefusal
+unfolding answerOf answerBy answerToRefusal
 returns c = rw (c .before .before .verdict .given .1) (c .refused .ensures)
 
 enum-told : tie.Need-enum-told

@@ -2,7 +2,7 @@
 use mathlib.Core.Path.{_≡_}
 use native.Mathlib.Omega.{arith}
 use Rattle.decimal_model.specs.Ascii.{ascii}
-use Rattle.reason_model.specs.Reasons.{spoken}
+use Rattle.reason_model.specs.Reasons.{verdictLine}
 use borrow.Author.Needs.{needs}
 use Rattle.reason_print.proofs.put_verdict.Statement.{statement}
 use Rattle.reason_print.proofs.put_verdict.Tie as tie
@@ -17,7 +17,7 @@ same-length : tie.Need-same-length
 same-length c = search needs
 
 returns : tie.Need-returns
-unfolding spoken
+unfolding verdictLine
 returns c = rw (c .before .before .before .before .before .verdict .given .1) (c .before .before .put-reason .ensures)
 
 enum-told : tie.Need-enum-told
@@ -33,7 +33,7 @@ same-length-2 : tie.Need-same-length-2
 same-length-2 c = search needs
 
 returns-2 : tie.Need-returns-2
-unfolding spoken ascii
+unfolding verdictLine ascii
 returns-2 c =
     let e = c .before .before .put-bytes .ensures in
     let l : c .before .before .put-bytes .result ≡ 19 = e .0 in

@@ -7,7 +7,7 @@ use Rattle.buffer.proofs.Putting.{put-front}
 use Rattle.plan_model.specs.declared.Plan.{Plan}
 use Rattle.row_answer_model.specs.Outcomes.{namedOutcome}
 use Rattle.report_model.specs.Text.{text}
-use Rattle.reason_model.specs.Reasons.{spoken}
+use Rattle.reason_model.specs.Reasons.{verdictLine}
 use Rattle.row_calls_model.specs.Entries.{rowLine, explainRow}
 use Rattle.calls_model.proofs.Leaving.{plan-told}
 use Rattle.calls_model.proofs.ReasonLines.{line-again}
@@ -46,7 +46,7 @@ same-length : tie.Need-same-length
 same-length c = search needs
 
 returns : tie.Need-returns
-unfolding explainRow rowLine spoken
+unfolding explainRow rowLine verdictLine
 returns c =
     let a = c .before .before .before .before .before .before .before .before .before .before .before .before .before .before .before .args in
     let plan = c .before .before .before .before .before .before .before .before .before .before .decide-named-row in
@@ -55,10 +55,10 @@ returns c =
     let p = c .before .before .before .before .before .before .put-verdict in
     let n = ap (λ (x : Answer). x .number) t ∙ number-same rowTable text o in
     let z = ap (λ (x : Answer). x .place) t ∙ place-same rowTable text o in
-    let v = ap spoken (ap (λ (x : Plan). x .verdict) (plan .ensures .0) ∙ verdict-same rowTable text o) in
+    let v = ap verdictLine (ap (λ (x : Plan). x .verdict) (plan .ensures .0) ∙ verdict-same rowTable text o) in
     let e = put-front (p .last .0) (replicate 160 0) _ (p .result) (p .ensures .0) (omega (arith, p .ensures .1 .0)) (p .ensures .1 .1) ∙ v in
     let l = rw (e, n, z) at (c .before .before .leave .ensures) in
-    (l, line-again text spoken (λ r. refl) o (a .out .now) _ _ l (omega (arith, c .before .before .leave .ok)))
+    (l, line-again text verdictLine (λ r. refl) o (a .out .now) _ _ l (omega (arith, c .before .before .leave .ok)))
 
 pub explain-row-spec : {M : Type 1} → statement M
 explain-row-spec =

@@ -4,7 +4,7 @@ use mathlib.Core.List.{[], _∷_}
 use Rattle.lines.specs.Text.{ended}
 use Rattle.plan_model.specs.declared.Plan.{Plan}
 use Rattle.row_answer_model.specs.Outcomes.{rowOutcome}
-use Rattle.reason_model.specs.Reasons.{spoken}
+use Rattle.reason_model.specs.Reasons.{verdictLine}
 use Rattle.line_table_model.specs.Rows.{rowTable}
 use Rattle.row_program_model.proofs.Inputs.{spoken-verdict}
 use borrow.Author.Needs.{needs}
@@ -27,7 +27,7 @@ returns : tie.Need-returns
 returns c =
     let a = c .before .before .before .before .before .before .before .before .before .args in
     let o = rowOutcome (a .heading) (a .row .now) in
-    let e = ap (λ (p : Plan). ended (spoken (p .verdict) ∷ [])) (c .before .before .before .before .before .decide-row .ensures .0) ∙ spoken-verdict rowTable o in
+    let e = ap (λ (p : Plan). ended (verdictLine (p .verdict) ∷ [])) (c .before .before .before .before .before .decide-row .ensures .0) ∙ spoken-verdict rowTable o in
     rw e at (c .before .before .put-spoken .ensures)
 
 pub put-reason-spec : {M : Type 1} → statement M

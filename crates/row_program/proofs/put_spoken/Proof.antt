@@ -2,7 +2,7 @@
 use mathlib.Core.Path.{sym, _∙_}
 use native.Mathlib.Omega.{arith}
 use native.Mathlib.Nat.{zero-add}
-use Rattle.reason_model.specs.Reasons.{spoken}
+use Rattle.reason_model.specs.Reasons.{verdictLine}
 use Rattle.buffer.proofs.Behind.{Put, byte-behind, front-ends}
 use Rattle.row_program_model.proofs.Inputs.{ended-one}
 use borrow.Author.Needs.{needs}
@@ -24,7 +24,7 @@ same-length c = search needs
 returns : tie.Need-returns
 returns c =
     let v = c .before .before .before .before .before .before .put-verdict in
-    let t = spoken (c .before .before .before .before .before .before .before .before .before .args .verdict) in
+    let t = verdictLine (c .before .before .before .before .before .before .before .before .before .args .verdict) in
     let p : Put (c .before .before .before .before .before .before .before .before .before .args .out .now) 0 t (v .last .0) (v .result) = record { ends = v .ensures .0 ∙ sym (zero-add _); leaves = v .ensures .1 .1 } in
     let q = byte-behind 10 p (c .before .before .put-byte .ensures) in
     rw (ended-one t) (front-ends q, (omega (arith, v .ensures .1 .0), q .leaves))

@@ -12,7 +12,7 @@ use Rattle.tree_read_model.specs.Survey.{outcomeIn}
 use Rattle.report_model.specs.TreeText.{treeText}
 use Rattle.node_table_model.specs.NodeRows.{treeTable}
 use Rattle.calls_model.specs.declared.Answer.{Answer}
-use Rattle.tree_calls_model.specs.Entries.{checkTree, treeSpoken, explainTree}
+use Rattle.tree_calls_model.specs.Entries.{checkTree, treeVerdictLine, explainTree}
 use Rattle.calls_model.proofs.Leaving.{plan-told}
 use Rattle.calls_model.proofs.ReasonLines.{line-again}
 use Rattle.calls_model.proofs.Telling.{number-same, place-same, verdict-same}
@@ -54,7 +54,7 @@ same-length : tie.Need-same-length
 same-length c = search needs
 
 returns : tie.Need-returns
-unfolding explainTree checkTree treeSpoken
+unfolding explainTree checkTree treeVerdictLine
 returns c =
     let a = c .before .before .before .before .before .before .before .before .before .before .before .before .before .before .before .before .before .args in
     let b = radio (a .bo) (a .so) (a .head) (a .payload) (a .ack) (a .loss) in
@@ -65,10 +65,10 @@ returns c =
     let n = ap (λ (x : Answer). x .number) t ∙ number-same treeTable treeText o in
     let z = ap (λ (x : Answer). x .place) t ∙ place-same treeTable treeText o in
     let p = c .before .before .before .before .before .before .put-tree-verdict in
-    let v = ap treeSpoken (ap (λ (x : Plan). x .verdict) q ∙ verdict-same treeTable treeText o) in
+    let v = ap treeVerdictLine (ap (λ (x : Plan). x .verdict) q ∙ verdict-same treeTable treeText o) in
     let e = put-front (p .last .0) (replicate 160 0) _ (p .result) (p .ensures .0) (omega (arith, p .ensures .1 .0)) (p .ensures .1 .1) ∙ v in
     let l = rw (e, n, z) at (c .before .before .leave .ensures) in
-    (l, line-again treeText treeSpoken (λ r. refl) o (a .out .now) _ _ l (omega (arith, c .before .before .leave .ok)))
+    (l, line-again treeText treeVerdictLine (λ r. refl) o (a .out .now) _ _ l (omega (arith, c .before .before .leave .ok)))
 
 pub explain-tree-spec : {M : Type 1} → statement M
 explain-tree-spec =

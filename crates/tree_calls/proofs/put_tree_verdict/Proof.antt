@@ -1,7 +1,7 @@
 -- `tree_calls::put_tree_verdict` meets its contract. Assumes nothing.
 use native.Mathlib.Omega.{arith}
 use Rattle.decimal_model.specs.Ascii.{ascii}
-use Rattle.tree_calls_model.specs.Entries.{treeSpoken}
+use Rattle.tree_calls_model.specs.Entries.{treeVerdictLine}
 use borrow.Author.Needs.{needs}
 use Rattle.tree_calls.proofs.put_tree_verdict.Statement.{statement}
 use Rattle.tree_calls.proofs.put_tree_verdict.Tie as tie
@@ -16,7 +16,7 @@ same-length : tie.Need-same-length
 same-length c = search needs
 
 returns : tie.Need-returns
-unfolding treeSpoken
+unfolding treeVerdictLine
 returns c = rw (c .before .before .before .before .before .verdict .given .1) (c .before .before .put-reason .ensures)
 
 enum-told : tie.Need-enum-told
@@ -32,7 +32,7 @@ same-length-2 : tie.Need-same-length-2
 same-length-2 c = search needs
 
 returns-2 : tie.Need-returns-2
-unfolding treeSpoken ascii
+unfolding treeVerdictLine ascii
 returns-2 c = rw (c .before .before .before .before .before .enum-told .given .1) (c .before .before .put-bytes .ensures .0, (omega (arith, c .before .before .put-bytes .ensures .0), c .before .before .put-bytes .ensures .1))
 
 pub put-tree-verdict-spec : {M : Type 1} → statement M

@@ -4,7 +4,7 @@ use Prim.Native.Nat.{suc, _-_, _≤_}
 use native.Mathlib.Omega.{arith}
 use native.Mathlib.Numerals.{add-one}
 use lib.ListN.{drop}
-use Rattle.settings_model.specs.Columns.{table}
+use Rattle.settings_model.specs.Columns.{everyColumn}
 use Rattle.reason_model.specs.declared.Match.the-variants.{At}
 use Rattle.reason_model.specs.Reading.{placeIn, columnFrom, unnamed, columnIn}
 use Rattle.reason_model.proofs.ColumnNames.{column-found, column-later, column-none}
@@ -13,7 +13,7 @@ use Rattle.reason_read.proofs.names.column_in.Statement.{statement}
 use Rattle.reason_read.proofs.names.column_in.Tie as tie
 
 abbrev Inv-loop : tie.InvT-loop
-Inv-loop word k₀ k = (k ≤ 13) × (columnFrom (unnamed (placeIn word)) (suc k) (drop k table) word ≡ columnIn word)
+Inv-loop word k₀ k = (k ≤ 13) × (columnFrom (unnamed (placeIn word)) (suc k) (drop k everyColumn) word ≡ columnIn word)
 
 abbrev μ-loop : tie.MeasureT-loop
 μ-loop word k₀ k = 13 - k

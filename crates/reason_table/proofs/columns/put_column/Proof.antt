@@ -6,7 +6,7 @@ use native.Mathlib.Omega.{arith}
 use lib.ListN.{length}
 use lib.Seq.{sets}
 use Rattle.decimal_model.specs.Ascii.{ascii}
-use Rattle.settings_model.specs.Columns.{twelve, table}
+use Rattle.settings_model.specs.Columns.{twelve, everyColumn}
 use Rattle.reason_model.specs.Reasons.{named, columnName}
 use Rattle.reason_model.specs.Inner.{joined, startsFrom, names}
 use Rattle.reason_model.proofs.ColumnNames.{name-above}
@@ -55,14 +55,14 @@ array-read-put-between-2 : tie.Need-array-read-put-between-2
 array-read-put-between-2 c = search needs
 
 put-between-requires : tie.Need-put-between-requires
-unfolding joined startsFrom names twelve table ascii
+unfolding joined startsFrom names twelve everyColumn ascii
 put-between-requires c κs = let h = name-stands (c .before .before .before .before .before .args .column) (omega arith) (omega arith) in (h .order, h .inside)
 
 same-length-3 : tie.Need-same-length-3
 same-length-3 c = search needs
 
 returns-3 : tie.Need-returns-3
-unfolding joined startsFrom names twelve table ascii
+unfolding joined startsFrom names twelve everyColumn ascii
 returns-3 c =
     let a = c .before .before .before .before .before .before .before .before .args in
     let h = name-stands (a .column) (omega arith) (omega arith) in

@@ -7,7 +7,7 @@ use lib.ListN.{length}
 use lib.Seq.{sets}
 use Rattle.decimal_model.specs.Ascii.{ascii}
 use Rattle.refusals.specs.Refusals.{conflictPlace}
-use Rattle.settings_model.specs.Columns.{twelve, table, columnAt}
+use Rattle.settings_model.specs.Columns.{twelve, everyColumn, columnAt}
 use Rattle.reason_model.specs.Reasons.{named, columnName, ruleOf, treePhrase, phraseOf}
 use Rattle.reason_model.specs.Reading.{sorts}
 use Rattle.reason_model.specs.Inner.{phraseAt, joined, startsFrom, phrases}
@@ -47,7 +47,7 @@ array-read-put-between-2 : tie.Need-array-read-put-between-2
 array-read-put-between-2 c = search needs
 
 put-between-requires : tie.Need-put-between-requires
-unfolding joined startsFrom phrases sorts phraseOf ruleOf treePhrase conflictPlace columnName named columnAt twelve table ascii
+unfolding joined startsFrom phrases sorts phraseOf ruleOf treePhrase conflictPlace columnName named columnAt twelve everyColumn ascii
 put-between-requires c κs =
     let k = c .before .before .before .known-sort .result in
     let h = phrase-stands 0 7 k k (omega arith) (omega arith) (omega arith) in (h .order, h .inside)
@@ -56,7 +56,7 @@ same-length : tie.Need-same-length
 same-length c = search needs
 
 returns : tie.Need-returns
-unfolding joined startsFrom phrases sorts phraseOf ruleOf treePhrase conflictPlace columnName named columnAt twelve table ascii
+unfolding joined startsFrom phrases sorts phraseOf ruleOf treePhrase conflictPlace columnName named columnAt twelve everyColumn ascii
 returns c =
     let k = c .before .before .before .before .before .before .known-sort in
     let e = c .before .before .put-between .ensures in
@@ -82,7 +82,7 @@ array-read-put-between-4 : tie.Need-array-read-put-between-4
 array-read-put-between-4 c = search needs
 
 put-between-requires-2 : tie.Need-put-between-requires-2
-unfolding joined startsFrom phrases sorts phraseOf ruleOf treePhrase conflictPlace columnName named columnAt twelve table ascii
+unfolding joined startsFrom phrases sorts phraseOf ruleOf treePhrase conflictPlace columnName named columnAt twelve everyColumn ascii
 put-between-requires-2 c κs =
     let k = c .before .before .before .before .known-sort .result in
     let h = phrase-stands 7 6 k (k - 7) (omega arith) (omega arith) (omega arith) in (h .order, h .inside)
@@ -91,7 +91,7 @@ same-length-2 : tie.Need-same-length-2
 same-length-2 c = search needs
 
 returns-2 : tie.Need-returns-2
-unfolding joined startsFrom phrases sorts phraseOf ruleOf treePhrase conflictPlace columnName named columnAt twelve table ascii
+unfolding joined startsFrom phrases sorts phraseOf ruleOf treePhrase conflictPlace columnName named columnAt twelve everyColumn ascii
 returns-2 c =
     let k = c .before .before .before .before .before .before .before .known-sort in
     let e = c .before .before .put-between2 .ensures in
@@ -117,7 +117,7 @@ array-read-put-between-6 : tie.Need-array-read-put-between-6
 array-read-put-between-6 c = search needs
 
 put-between-requires-3 : tie.Need-put-between-requires-3
-unfolding joined startsFrom phrases sorts phraseOf ruleOf treePhrase conflictPlace columnName named columnAt twelve table ascii
+unfolding joined startsFrom phrases sorts phraseOf ruleOf treePhrase conflictPlace columnName named columnAt twelve everyColumn ascii
 put-between-requires-3 c κs =
     let k = c .before .before .before .before .known-sort .result in
     let h = phrase-stands 13 8 k (k - 13) (omega arith) (omega arith) (omega arith) in (h .order, h .inside)
@@ -126,7 +126,7 @@ same-length-3 : tie.Need-same-length-3
 same-length-3 c = search needs
 
 returns-3 : tie.Need-returns-3
-unfolding joined startsFrom phrases sorts phraseOf ruleOf treePhrase conflictPlace columnName named columnAt twelve table ascii
+unfolding joined startsFrom phrases sorts phraseOf ruleOf treePhrase conflictPlace columnName named columnAt twelve everyColumn ascii
 returns-3 c =
     let k = c .before .before .before .before .before .before .before .known-sort in
     let e = c .before .before .put-between3 .ensures in

@@ -1,11 +1,10 @@
 -- `row_loads::loads::no_load` meets its contract. Assumes nothing.
 use borrow.Author.Needs.{needs}
-use Rattle.row_plan_model.specs.Inner.{noLoad}
+use Rattle.links.specs.Link.{noLoad}
 use Rattle.row_loads.proofs.loads.no_load.Statement.{statement}
 use Rattle.row_loads.proofs.loads.no_load.Tie as tie
 
 returns : tie.Need-returns
-unfolding noLoad
 returns c = search needs
 
 pub no-load-spec : {M : Type 1} → statement M

@@ -27,12 +27,12 @@ enum-told-2 c = search needs
 on-path-slots-requires : tie.Need-on-path-slots-requires
 on-path-slots-requires c κs = let p = c .before .before .before .before .before .before .before .pre in (p .0, (p .1 .0, (p .1 .1 .0, (p .1 .1 .1 .0, c .if1 .taken))))
 
-within-requires : tie.Need-within-requires
-within-requires c κs = search needs
+fits-at-requires : tie.Need-fits-at-requires
+fits-at-requires c κs = search needs
 
 returns-2 : tie.Need-returns-2
 returns-2 c = let a = c .before .before .before .before .before .before .before .before .before in
-    c .within .ensures ∙ rw (c .before .before .before .before .before .before .before .before .reservable-at .ensures, c .before .on-path-slots .ensures) (on-path-there (a .args .s) (a .args .i) (c .before .before .if1 .taken))
+    c .fits-at .ensures ∙ rw (c .before .before .before .before .before .before .before .before .reservable-at .ensures, c .before .on-path-slots .ensures) (on-path-there (a .args .s) (a .args .i) (c .before .before .if1 .taken))
     ∙ depth-next (a .args .s) (a .args .i) (sym (c .before .before .before .before .before .before .off-path-fits .ensures) ∙ c .before .before .before .before .enum-told2 .given .1)
 
 returns-3 : tie.Need-returns-3
@@ -50,6 +50,6 @@ depth-fits-spec =
     returns
     enum-told-2
     on-path-slots-requires
-    within-requires
+    fits-at-requires
     returns-2
     returns-3)

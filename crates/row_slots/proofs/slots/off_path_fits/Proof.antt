@@ -8,14 +8,14 @@ use Rattle.row_slots.proofs.slots.off_path_fits.Tie as tie
 has-off-path-requires : tie.Need-has-off-path-requires
 has-off-path-requires c κs = search needs
 
-within-requires : tie.Need-within-requires
-within-requires c κs = search needs
+fits-at-requires : tie.Need-fits-at-requires
+fits-at-requires c κs = search needs
 
 returns : tie.Need-returns
-returns c = let a = c .before .before .before in c .within .ensures ∙ rw (a .pre .0, a .pre .1 .0) (off-path-there (a .args .s) (a .args .i) (sym (c .before .before .has-off-path .ensures) ∙ c .before .if1 .taken))
+returns c = let a = c .before .before .before in c .fits-at .ensures ∙ rw (a .pre .0, a .pre .1 .0) (off-path-there (a .args .s) (a .args .i) (sym (c .before .before .has-off-path .ensures) ∙ c .before .if1 .taken))
 
 returns-2 : tie.Need-returns-2
 returns-2 c = let a = c .before .before in off-path-none (a .args .s) (a .args .i) (sym (c .before .has-off-path .ensures) ∙ c .if1 .left)
 
 pub off-path-fits-spec : {M : Type 1} → statement M
-off-path-fits-spec = tie.close (tie.spec has-off-path-requires within-requires returns returns-2)
+off-path-fits-spec = tie.close (tie.spec has-off-path-requires fits-at-requires returns returns-2)

@@ -1,6 +1,6 @@
 -- `superframe::exchange::table_entry` meets its contract. Assumes nothing.
 use Rattle.superframe_model.specs.Exchange.{airTime, acknowledgement, spacing, exchange}
-use Rattle.superframe_model.specs.ExchangeTable.{entriesFrom, table}
+use Rattle.superframe_model.specs.ExchangeTable.{entriesFrom, exchangeTable}
 use Rattle.superframe_model.proofs.TableLaws.{entry-is, entry-none, in-order, table-fits}
 use borrow.Author.Needs.{needs}
 use Rattle.superframe.proofs.exchange.table_entry.Statement.{statement}
@@ -13,11 +13,11 @@ array-read-t8 : tie.Need-array-read-t8
 array-read-t8 c = search needs
 
 cast-t9 : tie.Need-cast-t9
-unfolding table entriesFrom exchange airTime acknowledgement spacing
+unfolding exchangeTable entriesFrom exchange airTime acknowledgement spacing
 cast-t9 c = record { fits = table-fits (c .before .args .index) }
 
 returns : tie.Need-returns
-unfolding table entriesFrom exchange airTime acknowledgement spacing
+unfolding exchangeTable entriesFrom exchange airTime acknowledgement spacing
 returns c = in-order _ _ (entry-is (c .before .args .index) (c .if1 .taken))
 
 returns-2 : tie.Need-returns-2

@@ -11,7 +11,7 @@ use borrow.Fn.PlainCycle.{Measures, is, falls, and}
 use Rattle.links.specs.declared.Load.{Load}
 use Rattle.links.specs.declared.Timing.{Timing}
 use Rattle.links.specs.Link.{loadUpTo64}
-use Rattle.tree_model.specs.Tree.{Tree, treeOf, feeds}
+use Rattle.tree_model.specs.Tree.{Tree, treeOf, otherNeighbour}
 use Rattle.tree_model.specs.Loads.{inputOf}
 use Rattle.tree_model.proofs.Steps as steps
 use Rattle.tree_plan_model.proofs.Shaped.{planted-shape}
@@ -156,7 +156,7 @@ pub +input-of-router+output-of-link-spec : {M : Type 1} → statement M
     let R = take n (x .rates .now) in
     let l = c .before .before .before .before .loop in
     let one : 1 ≤ l .w = omega (arith, c .before .before .before .loop-test .taken) in
-    let yes : feeds (treeOf P B R) (x .v) (x .from) (l .w) ≡ true = feeding P B R (x .v) (x .from) (l .w) (l .inv .beside one) (c .before .if1 .taken) in
+    let yes : otherNeighbour (treeOf P B R) (x .v) (x .from) (l .w) ≡ true = feeding P B R (x .v) (x .from) (l .w) (l .inv .beside one) (c .before .if1 .taken) in
     let most : l .w ≤ length P - 1 = omega (arith, l .inv .known) in
     (omega (arith, c .before .before .before .before .before .before .before .before .before .pre .0, steps.falls (treeOf P B R) (g .planted) (x .v) (x .from) (l .w) (q .1 .1) one most yes), (q .0, (q .1 .0, steps.faces (treeOf P B R) (g .planted) (x .v) (x .from) (l .w) (q .1 .1) one most yes))))
     -- plus-requires
@@ -179,7 +179,7 @@ pub +input-of-router+output-of-link-spec : {M : Type 1} → statement M
     let T : Tree = treeOf P B R in
     let l = c .before .before .before .before .before .before .loop in
     let one : 1 ≤ l .w = omega (arith, c .before .before .before .before .before .loop-test .taken) in
-    let yes : feeds T (x .v) (x .from) (l .w) ≡ true = feeding P B R (x .v) (x .from) (l .w) (l .inv .beside one) (c .before .before .before .if1 .taken) in
+    let yes : otherNeighbour T (x .v) (x .from) (l .w) ≡ true = feeding P B R (x .v) (x .from) (l .w) (l .inv .beside one) (c .before .before .before .if1 .taken) in
     let most : l .w ≤ length P - 1 = omega (arith, l .inv .known) in
     let m = c .before .before .before .before .neighbour-after2 .ensures in
     let o = c .before .output-of-link in
