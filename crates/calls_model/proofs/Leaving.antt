@@ -19,7 +19,7 @@ use Rattle.calls_model.specs.Inner.{answerBy, answerOf}
 use Rattle.calls_model.proofs.Rooms.{roomed-refused, roomed-planned, roomed-short}
 
 module _ {P : Type 0} (text : P → List ℕ) where
-  -- the answer to an outcome's plan is what is answerTo of it
+  -- the answer to an outcome's plan is what is told of it
   told-of : (o : Outcome P) → answerOf (answer text o) ≡ answerTo text o
   unfolding answerOf answerBy answer planned refused answerToRefusal answerTo
   told-of (Planned p) = refl

@@ -1,4 +1,4 @@
--- What an outcome is answerTo as, whatever its plan is put as, and what a plan that is put whole or not at all leaves. Assumes nothing.
+-- What an outcome is told as, whatever its plan is put as, and what a plan that is put whole or not at all leaves. Assumes nothing.
 use mathlib.Core.Path.{_≡_, refl, _∙_}
 use mathlib.Core.Bool.{cond}
 use mathlib.Core.List.{List}

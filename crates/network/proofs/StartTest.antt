@@ -13,7 +13,7 @@ use Rattle.network.specs.Model.{Network}
 use Rattle.network.specs.Run.{Start}
 use Rattle.network.specs.Oracle.{isStart}
 
--- ---- some number someBelow n
+-- ---- some number below n
 
 record Found (n : ℕ) (p : ℕ → Bool) : Type 0 where
   which : ℕ

@@ -39,7 +39,7 @@ pub record WithinBounds (N : Network) (F : Flows) (l : List Reading) (u : ℕ) (
   -- the queues and at the sink as the readings made there then, and none before they are made.
   pub noneLost : (o c : ℕ) → present N s o c ≡ cond (leb c u) (made l c o) 0
 
--- The theorem, proved in proofs/Theorem: for every network and figures that fulfil the hypotheses, all readings cameIn the token
+-- The theorem, proved in proofs/Theorem: for every network and figures that fulfil the hypotheses, all readings within the token
 -- buckets, every run that they feed, and every last symbol u, everything above at once.
 abbrev pub EveryRunIsKept : Type 0
 EveryRunIsKept = (N : Network) (F : Flows) → Provisioned N F

@@ -13,7 +13,7 @@ unfoldable pub bit : Bool → ℕ
 bit true = 1
 bit false = 0
 
--- does some number someBelow n pass the test?
+-- does some number below n pass the test?
 unfoldable pub someBelow : ℕ → (ℕ → Bool) → Bool
 someBelow zero p = false
 someBelow (suc n) p = p n || someBelow n p

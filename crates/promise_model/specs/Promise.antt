@@ -56,11 +56,11 @@ networkOf t S P offset = record {
   holds = λ v. framesIn (P .slots v) (t .slot) (t .exchange) .0;
 }
 
--- "a window lies whole cameIn every interval", and nothing else is asked of offsets
+-- "a window lies whole within every interval", and nothing else is asked of offsets
 abbrev pub Windows : Timing → Site → Printed → (ℕ → ℕ) → Type 0
 Windows t S P offset = (v : ℕ) → Linked (networkOf t S P offset) v → offset v + P .slots v .0 * t .slot .0 ≤ t .interval .0
 
--- Readings of nodes, each cameIn its own token bucket: "in any t consecutive symbols, at most a frames with a × BI ≤ BURST × BI + RATE × t". A
+-- Readings of nodes, each within its own token bucket: "in any t consecutive symbols, at most a frames with a × BI ≤ BURST × BI + RATE × t". A
 -- node that does not sense has BURST and RATE 0, and so makes none.
 pub record Readings (t : Timing) (S : Site) (l : List Reading) : Type 0 where
   pub sensors : All (λ r. r .sensor < S .nodes) l
@@ -84,7 +84,7 @@ pub record Held (P : Printed) (N : Network) (l : List Reading) (u : ℕ) (now : 
   -- sink as the readings made there then
   pub noneLost : (o c : ℕ) → present N now o c ≡ cond (leb c u) (made l c o) 0
 
--- For every offset of every window, all readings cameIn the token buckets, every run and every last symbol: everything above at once.
+-- For every offset of every window, all readings within the token buckets, every run and every last symbol: everything above at once.
 abbrev pub Keeps : Timing → Site → Printed → Type 0
 Keeps t S P = (offset : ℕ → ℕ) → Windows t S P offset
     → (l : List Reading) → Readings t S l

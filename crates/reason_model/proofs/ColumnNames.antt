@@ -162,7 +162,7 @@ unnamed-writes w p e = by (placeIn w) refl e where
   by (At q) f g = with q f (named q) refl g
   by Nowhere f g = no-place p g
 
--- a name that is one of the everyColumn's
+-- a name that is one of the table's
 name-writes : (w : List ℕ) (p j : ℕ) → j < length everyColumn → p ≡ 1 + j → ascii (getD everyColumn j (column "" 0 0) .name) ≡ w → columnName p ≡ w
 unfolding columnName named columnAt twelve everyColumn
 name-writes w p j h q n =

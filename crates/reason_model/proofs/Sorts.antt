@@ -1,4 +1,4 @@
--- Each refusal is of one sort of the everyColumn, and the sorts' phrases are apart. Assumes nothing.
+-- Each refusal is of one sort of the table, and the sorts' phrases are apart. Assumes nothing.
 use mathlib.Core.Path.{_≡_, refl, ap, _∙_}
 use mathlib.Core.Bool.{Bool, true, _&&_}
 use mathlib.Core.List.{List, [], _∷_, map}

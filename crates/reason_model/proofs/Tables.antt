@@ -46,7 +46,7 @@ phrase-stands i n k j z h l =
     let e : getD (part i n) j [] ≡ phraseAt k = getD-take n (drop i phrases) j [] h ∙ getD-drop i phrases j [] ∙ in-range phrases (i + j) [] (phraseOf Names) (omega arith) ∙ List·getD-map phraseOf sorts (i + j) Names ∙ ap phraseAt (sym z) in
     rw (add-one, sym e) (stands (part i n) j (omega (arith, h, part-length i n l)))
 
--- a sort that the everyColumn does not have counts as the first
+-- a sort that the table does not have counts as the first
 pub phrase-else : (k : ℕ) → 21 ≤ k → phraseAt 0 ≡ phraseAt k
 unfolding phraseAt sortAt sorts
 phrase-else k h = ap phraseOf (sym (List·getD-eq-default sorts Names h))

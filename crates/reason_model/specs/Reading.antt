@@ -75,7 +75,7 @@ matched [] Nowhere t = Nowhere
 matched (x ∷ xs) (At p) t = matched xs (meant p x (take (extent x t) t)) (drop (extent x t) t)
 matched (x ∷ xs) Nowhere t = Nowhere
 
--- ---- the everyColumn of phrases, with one refusal of each sort
+-- ---- the table of phrases, with one refusal of each sort
 
 unfoldable pub sorts : List Refusal
 sorts =

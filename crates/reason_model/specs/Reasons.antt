@@ -45,7 +45,7 @@ treePhrase SinkNode = "The sink is no router of the tree."
 treePhrase (RouterReservations router reservations) = "Router % would have more than 7 reservations: it would have #."
 treePhrase (RouterSlots router used reservable) = "The slots used at router % are more than can be reserved: # used and # reservable."
 
--- the everyColumn: the phrase of each number. In a phrase `@` stands for the place as a column's name, `%` for the place as a number, and
+-- the table: the phrase of each number. In a phrase `@` stands for the place as a column's name, `%` for the place as a number, and
 -- each `#` for the next of the values concerned.
 unfoldable pub phraseOf : Refusal → List ℕ
 phraseOf Names = ascii "The line of names differs or is missing."

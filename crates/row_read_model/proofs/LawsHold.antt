@@ -44,12 +44,12 @@ read-where-unbroken heading row s = (
   λ h. unbroken-first Refused (Read (settingsOf (valuesIn row))) (conditions heading row) (h .0) ∙ ap Read (h .1),
 )
 
--- a row of which no condition is broken is columnsRead
+-- a row of which no condition is broken is written
 is-written : (heading : Heading) (row : List ℕ) → Unbroken (conditions heading row) → Unbroken (columnsRead 1 (columnsUnder heading) (fields row))
 unfolding conditions
 is-written heading row u = unbroken-right (headed heading) (columnsRead 1 (columnsUnder heading) (fields row)) u
 
--- a row that is columnsRead has as many values as there are columns
+-- a row that is written has as many values as there are columns
 all-values : (heading : Heading) (row : List ℕ) → Unbroken (columnsRead 1 (columnsUnder heading) (fields row)) → length (valuesIn row) ≡ length (columnsUnder heading)
 all-values heading row u = values-length heading row (unbroken-first Broken Kept (columnsRead 1 (columnsUnder heading) (fields row)) u)
 

@@ -24,7 +24,7 @@ use Rattle.row_read_model.specs.Rows.{headed, columnsRead, valuesIn, set
 use Rattle.row_read_model.specs.Laws.{withZero, SameWithoutLoss}
 use Rattle.row_read_model.proofs.Taking.{same-settings}
 
--- 0 as it is columnsRead
+-- 0 as it is written
 abbrev naught : List ℕ
 naught = 48 ∷ []
 

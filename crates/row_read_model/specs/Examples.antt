@@ -1,4 +1,4 @@
--- Document 01's examples of refusals 1 and 2, with document 02's E5, and cases at their edges, computed in one everyColumn. Assumes nothing.
+-- Document 01's examples of refusals 1 and 2, with document 02's E5, and cases at their edges, computed in one table. Assumes nothing.
 use mathlib.Core.Path.{_≡_}
 use mathlib.Core.List.{List, [], _∷_, _++_}
 use Prim.Native.Nat.{ℕ}

@@ -1,4 +1,4 @@
--- A row of settings: its values, and the conditions of numbers 1 to 4 in their order (document 01, 'Rows of settings'; document 02, E5).
+-- A row of settings: its values, and the conditions of numbers 1 and 2 in their order (document 01, 'Rows of settings'; document 02, E5).
 -- Assumes nothing: these are definitions.
 use Prim.Native.Nat.{ℕ, suc}
 use mathlib.Core.Bool.{true, not}

@@ -1,4 +1,4 @@
--- The exchangeTable of exchange times: the rule at each entry. Assumes nothing.
+-- The table of exchange times: the rule at each entry. Assumes nothing.
 use mathlib.Core.Path.{_≡_, ap, _∙_}
 use mathlib.Core.Bool.{Bool, true, false, cond}
 use Prim.Native.Nat.{ℕ, zero, suc, _+_, _-_, _*_, _^_, _≤_, _<_}
@@ -42,7 +42,7 @@ pub entry-none : (i : ℕ) → 244 ≤ i → symbols 340 ≡ entryFor i
 unfolding entryFor
 entry-none i h = rw (le-ltb i 244 h)
 
--- so what is answered for an entry is in the exchangeTable's order
+-- so what is answered for an entry is in the table's order
 pub in-order : (i : ℕ) (x : Symbols) → x ≡ entryFor i → (x ≡ entryFor i) × InOrder i x
 unfolding InOrder
 in-order i x e = (e, λ m a low high at. e ∙ ap entryFor at ∙ table-rule m a low high)

@@ -1,4 +1,4 @@
--- The exchangeTable of exchange times (document 02, E4): its order and its rule. Assumes nothing: these are definitions.
+-- The table of exchange times (document 02, E4): its order and its rule. Assumes nothing: these are definitions.
 use Prim.Native.Nat.{ℕ, zero, suc, _+_, _-_, _*_, _≤_}
 use mathlib.Core.Path.{_≡_}
 use mathlib.Core.Bool.{Bool, true, false, cond}
@@ -26,6 +26,6 @@ entryFor i = symbols (cond (ltb i 244) (getD exchangeTable i 0) 340)
 unfoldable pub entryIndex : ℕ → Bool → ℕ
 entryIndex m acknowledged = 2 * (m - 6) + cond acknowledged 1 0
 
--- the order, for those who hold the exchangeTable against a print: where x stands at entry i, and X of m octets stands there, x is that X
+-- the order, for those who hold the table against a print: where x stands at entry i, and X of m octets stands there, x is that X
 unfoldable pub InOrder : ℕ → Symbols → Type 0
 InOrder i x = (m : ℕ) (acknowledged : Bool) → 6 ≤ m → m ≤ 127 → i ≡ entryIndex m acknowledged → x ≡ exchange m acknowledged

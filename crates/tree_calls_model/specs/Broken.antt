@@ -1,6 +1,6 @@
 -- The promise of a surveyed tree is about something: it is broken where a text with too small a BUFFER or ROUTE stands, or a plan
 -- that was made without LOSS. Assumes nothing:
--- these are definitions and statements; proofs/TreeBreaks proves them.
+-- these are definitions and statements; proofs/Breaks proves them.
 use Prim.Native.Nat.{ℕ}
 use mathlib.Core.List.{List}
 use lib.ListN.{length}

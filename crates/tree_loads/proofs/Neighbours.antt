@@ -76,7 +76,7 @@ module _ (ps : List ℕ) (p : Rooted (shape ps)) (v : ℕ) (one : 1 ≤ v) (h : 
       side : (u : ℕ) → k < u → Beside ps v u → getD ps u 0 ≡ v
       side u a s = ⊎-elim (λ x. x) (λ x. absurd (not-parent u a x (ℕ-discrete k 0))) s
 
--- ---- what lies between a neighbour and the next otherNeighbour nothing
+-- ---- what lies between a neighbour and the next feeds nothing
 
 -- up to just before w; to the end where w is 0
 abbrev pub before : ℕ → ℕ → ℕ
@@ -98,7 +98,7 @@ module _ (ps bs rs : List ℕ) (v from : ℕ) where
       by true e = let s = steps.next T v from u e .side in absurd (no-such s c (m .some u a q s) (m .least u a q s) l)
       by false e = refl
 
-  -- a neighbour other than the one at `from` otherNeighbour, that one does not
+  -- a neighbour other than the one at `from` feeds, that one does not
   pub feeding : (w : ℕ) → Beside ps v w → (w ≡ from → ⊥) → otherNeighbour T v from w ≡ true
   feeding w s n = rw (ne-eqb w from n) (⊎-elim (λ x. rw (eq-eqb (getD ps w 0) v x)) (λ x. or-true x) s)
     where

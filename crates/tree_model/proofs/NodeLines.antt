@@ -1,4 +1,4 @@
--- The figuresIn lines of a surveyed tree, node by node. Assumes nothing.
+-- The printed lines of a surveyed tree, node by node. Assumes nothing.
 use mathlib.Core.Path.{_≡_, refl, sym, ap, _∙_}
 use mathlib.Core.List.{List, [], _∷_, _++_}
 use Prim.Native.Nat.{ℕ, zero, suc, _≤_, _<_}
@@ -47,7 +47,7 @@ module _ {A : Type 0} (f : ℕ → A) (d : A) where
       by (yes e) g = rw e (last (join n (λ i. f i ∷ [])) n (join-length n))
       by (no m) g = List·getD-append (join n (λ i. f i ∷ [])) (f n ∷ []) d i (omega (arith, join-length n, m)) ∙ g (omega (arith, m))
 
--- the line of node i + 1, where no number is missing and noFigures stands for a branch
+-- the line of node i + 1, where no number is missing and none stands for a branch
 module _ (b : Radio) (t : Tree) (p : Plain t) (s : ℕ) where
   line-at : (i : ℕ) → i < t .nodes → getD (lines b t s) i noLine ≡ lineAt b t s (suc i)
   line-at i h = rw (plain-as-in-e3 b t s p .lines) (join-at (λ i. lineAt b t s (suc i)) noLine (t .nodes) i h)

@@ -94,7 +94,7 @@ module _ (t : Tree) (p : Rooted t) where
     unfolding next childTowards
     next-else v n = rw (ne-eqb v s n, next)
 
-    -- childTowards v
+    -- below v
     next-below : (v w : ℕ) → (v ≡ s → ⊥) → 1 ≤ w → childBy (t .nodes) t s v ≡ w → next t s v ≡ w
     next-below v w n one e = next-else v n ∙ (rw e (by w one))
       where
@@ -286,7 +286,7 @@ module _ (t : Tree) (p : Rooted t) where
 
       -- ---- whose superframe a link lies in
 
-      -- a router's own, where the sink lies childTowards it, and else its parent's
+      -- a router's own, where the sink lies below it, and else its parent's
       next-none : (v : ℕ) → (v ≡ s → ⊥) → childTowards t s v ≡ 0 → next t s v ≡ t .parent v
       unfolding childTowards
       next-none v m e = next-up v m e
@@ -299,7 +299,7 @@ module _ (t : Tree) (p : Rooted t) where
           by zero e = let z : next t s v ≡ t .parent v = next-none v m e in rw z at (next-node v one most k m)
           by (suc c) e = (one, most)
 
-      -- the sink lies childTowards a node exactly where its neighbour towards the sink has a larger number
+      -- the sink lies below a node exactly where its neighbour towards the sink has a larger number
       pub leads-down : (v : ℕ) → 1 ≤ v → v ≤ t .nodes → (v ≡ s → ⊥) → ltb v (next t s v) ≡ leb 1 (childTowards t s v)
       unfolding childTowards
       leads-down v one most m = by (decLe 1 (childBy (t .nodes) t s v))

@@ -53,6 +53,6 @@ routeAt b t sink v = symbols (cond (eqb (loadAt b t sink v .rate .0) 0) 0 (wayDe
 unfoldable pub lineAt : Radio → Tree → ℕ → ℕ → NodeLine
 lineAt b t sink v = record { line = line (kindOf t sink v) (depthOf t v) (figuresAt b t sink v); route = routeAt b t sink v }
 
--- of nodes that are listed: noFigures for a gap, nor for a branch planned apart
+-- of nodes that are listed: none for a gap, nor for a branch planned apart
 unfoldable pub lines : Radio → Tree → ℕ → List NodeLine
 lines b t sink = join (t .nodes) (λ i. cond (isListed t (suc i)) (lineAt b t sink (suc i) ∷ []) [])

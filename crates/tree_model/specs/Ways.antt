@@ -14,7 +14,7 @@ childBy zero t c v = 0
 childBy (suc k) t zero v = 0
 childBy (suc k) t (suc c) v = elim (eqb (t .parent (suc c)) v) [ true ↦ suc c | false ↦ childBy k t (t .parent (suc c)) v ]
 
--- the child of v that is the sink or has it childTowards, or 0 where the sink is not childTowards v
+-- the child of v that is the sink or has it below, or 0 where the sink is not below v
 unfoldable pub childTowards : Tree → ℕ → ℕ → ℕ
 childTowards t sink v = childBy (t .nodes) t sink v
 
@@ -23,11 +23,11 @@ abbrev pub orElse : ℕ → ℕ → ℕ
 orElse zero p = p
 orElse (suc c) p = suc c
 
--- a node's neighbour towards the sink: that child where the sink lies childTowards the node, else its parent; 0 at the sink
+-- a node's neighbour towards the sink: that child where the sink lies below the node, else its parent; 0 at the sink
 unfoldable pub next : Tree → ℕ → ℕ → ℕ
 next t sink v = elim (eqb v sink) [ true ↦ 0 | false ↦ orElse (childTowards t sink v) (t .parent v) ]
 
--- the router in whose superframe the link of node v lies, the parent of the two: v itself where the sink lies childTowards it, else v's parent
+-- the router in whose superframe the link of node v lies, the parent of the two: v itself where the sink lies below it, else v's parent
 abbrev pub superframeBy : ℕ → ℕ → ℕ → ℕ
 superframeBy zero v parent = parent
 superframeBy (suc c) v parent = v
@@ -35,7 +35,7 @@ superframeBy (suc c) v parent = v
 unfoldable pub superframeOf : Tree → ℕ → ℕ → ℕ
 superframeOf t sink v = superframeBy (childTowards t sink v) v (t .parent v)
 
--- "KIND is S for the sink, D where the sink lies childTowards the node, else E for a leaf and U for a router"
+-- "KIND is S for the sink, D where the sink lies below the node, else E for a leaf and U for a router"
 unfoldable pub kindOf : Tree → ℕ → ℕ → Kind
 kindOf t sink v = cond (eqb v sink) Sink (cond (leb 1 (childTowards t sink v)) Downward (cond (isRouter t v) Upward EndNode))
 

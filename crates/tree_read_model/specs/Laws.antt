@@ -17,7 +17,7 @@ use Rattle.tree_read_model.specs.Survey.{treeIn, surveyed, outcomeIn}
 abbrev pub UnbrokenIsSurveyed : Type 0
 UnbrokenIsSurveyed = (input : List ℕ) (sink : ℕ) → Unbroken (surveyed input sink) → Surveyed (treeIn input) sink × (isRouter (treeIn input) sink ≡ true)
 
--- a text is planned exactly where number 10 lets it pass and its tree is planned, with the same lines
+-- a text that is planned passes number 10, and its tree is planned with the same lines
 abbrev pub PlannedText : Type 0
 PlannedText = (input : List ℕ) (b : Radio) (sink : ℕ) (p : List NodeLine) → outcomeIn input b sink ≡ Planned p
     → Unbroken (surveyed input sink) × (outcomeOf b (treeIn input) sink ≡ Planned p)
