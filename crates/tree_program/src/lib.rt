@@ -6,7 +6,8 @@ ghost use lib.Seq.{sets};
 ghost use Rattle.refusals.specs.declared.Verdict.the-variants.{Kept, Broken};
 ghost use Rattle.refusals.specs.declared.Refusal.the-variants.{Unreadable};
 ghost use Rattle.refusals.specs.Conditions.{firstBroken};
-ghost use Rattle.tree_program_model.specs.Output.{valueOf, lossIn, argumentsRead, argumentConditions, radioOf, sinkOf, treeOutput};
+ghost use Rattle.tree_program_model.specs.Inner.{Early};
+ghost use Rattle.tree_program_model.specs.Output.{valueOf, lossIn, argumentsRead, radioOf, sinkOf, treeOutput};
 use decimal_model::Number;
 use program_model::LIMIT;
 use refusals::Refusal;
@@ -35,18 +36,22 @@ pub fn put_tree_output(arguments: Arguments, input: &[u8], out: &mut [u8]) -> us
     plan.length
 }
 
-// Numbers 9, 10 and 2, in this order.
+// Numbers 9 and 2, and 10 before 2 where 2 is broken: else `plan_tree` asks it, so that a list is read once.
 fn check_call(arguments: Arguments, input: &[u8]) -> Verdict
-    ensures { λ r. ⌜ r ≡ firstBroken Broken Kept (argumentConditions arguments (now (input .entry))) ⌝ }
+    ensures { λ r. ⌜ Early arguments (now (input .entry)) r ⌝ }
 {
     if LIMIT < input.len() {
         return Verdict::Broken(Refusal::InputTooLong);
+    }
+    let unread = check_arguments(arguments);
+    if let Verdict::Kept = unread {
+        return unread;
     }
     let verdict = check_list(input, sink_of(arguments));
     if let Verdict::Broken(_) = verdict {
         return verdict;
     }
-    check_arguments(arguments)
+    unread
 }
 
 // Number 2: an argument that cannot be read, at its column in a row; one argument more, where column 14 would be.

@@ -10,10 +10,7 @@ use Rattle.decimal_model.specs.Decimal.{digitsBy, decimal}
 use Rattle.lines.specs.Text.{joined, ended}
 use Rattle.refusals.specs.declared.Refusal.{Refusal}
 use Rattle.refusals.specs.declared.Refusal.the-variants.{InputTooLong}
-use Rattle.refusals.specs.declared.Verdict.{Verdict}
-use Rattle.refusals.specs.declared.Verdict.the-variants.{Kept, Broken}
 use Rattle.refusals.specs.Refusals.{numberOf, placeOf}
-use Rattle.refusals.proofs.Answering.{verdict, first-part-answers}
 use Rattle.refusals.proofs.Unbroken.{unbroken-append, unbroken-left, unbroken-right}
 use Rattle.plan_model.specs.declared.NodeLine.{NodeLine}
 use Rattle.tree_model.specs.Lines.{lines}
@@ -31,7 +28,7 @@ use Rattle.program_model.specs.Printed.{printed, tooLong}
 use Rattle.settings_model.specs.declared.Radio.{Radio}
 use Rattle.tree_program_model.specs.Output.{lossIn, argumentsRead, radioOf, sinkOf, argumentConditions, callOutcome, treeOutput}
 use Rattle.tree_program_model.specs.Laws.{NotGivenIsZero, LongInputs, TenBeforeTwo, ReadArguments, PrintedLinesKeep}
-use Rattle.tree_program_model.proofs.Outputs.{too-long, ten-broken, two-next, call-refused, call-planned, output-refused}
+use Rattle.tree_program_model.proofs.Outputs.{too-long, ten-broken, call-planned, output-refused}
 
 pub long-inputs : LongInputs
 unfolding refusalText numberOf placeOf digitsBy decimal joined ended ascii
@@ -41,15 +38,8 @@ pub ten-before-two : TenBeforeTwo
 ten-before-two a input r h e = sym (output-refused a input r (sym (ten-broken a input h r e)))
 
 pub read-arguments : ReadArguments
-unfolding treeOutput outcomeIn
-read-arguments a input h k = by (verdict (surveyed input (sinkOf a))) refl where
-  o : TreeOutcome
-  o = outcomeIn input (radioOf a) (sinkOf a)
-
-  by : (v : Verdict) → verdict (surveyed input (sinkOf a)) ≡ v → treeOutput a input ≡ printed treeText o
-  by Kept e = ap (printed treeText) (sym (call-planned a input (sym (two-next a input h e) ∙ k)))
-  by (Broken r) e =
-      ap (printed treeText) (sym (call-refused a input r (sym (ten-broken a input h r e))) ∙ first-part-answers Refused (Planned (lines (radioOf a) (treeIn input) (sinkOf a))) (surveyed input (sinkOf a)) (conditions (radioOf a) (treeIn input) (sinkOf a)) r e)
+unfolding treeOutput
+read-arguments a input h k = ap (printed treeText) (sym (call-planned a input h k))
 
 -- no refusal is printed as a plan is
 no-text : (r : Refusal) (p : List NodeLine) → refusalText r ≡ treeText p → ⊥

@@ -1,5 +1,5 @@
 -- What is printed for a surveyed tree, as code finds it. Assumes nothing.
-use mathlib.Core.Path.{_≡_, ap, sym, _∙_}
+use mathlib.Core.Path.{_≡_, refl, ap, sym, _∙_}
 use mathlib.Core.Bool.{true, false}
 use mathlib.Core.List.{List, [], _++_}
 use Prim.Native.Nat.{ℕ, _≤_, _<_}
@@ -9,10 +9,10 @@ use Rattle.decimal_model.specs.declared.Number.{Number}
 use Rattle.decimal_model.specs.declared.Number.the-variants as number
 use Rattle.refusals.specs.declared.Refusal.{Refusal}
 use Rattle.refusals.specs.declared.Refusal.the-variants.{Unreadable, TextAfter, InputTooLong}
+use Rattle.refusals.specs.declared.Verdict.{Verdict}
 use Rattle.refusals.specs.declared.Verdict.the-variants.{Kept, Broken}
 use Rattle.refusals.specs.Conditions.{Condition, firstBroken}
-use Rattle.refusals.proofs.Answering.{verdict, first-part-answers, second-part-answers}
-use Rattle.refusals.proofs.Unbroken.{kept-unbroken, unbroken-first, unbroken-left, unbroken-right}
+use Rattle.refusals.proofs.Answering.{verdict, broken-kept, first-part-answers, second-part-answers}
 use Rattle.settings_model.specs.declared.Radio.{Radio}
 use Rattle.plan_model.specs.declared.Plan.{Plan}
 use Rattle.plan_model.specs.Plans.{answer, written}
@@ -26,6 +26,7 @@ use Rattle.tree_model.specs.Checks.{conditions}
 use Rattle.refusals.specs.Outcome.{Planned, Refused}
 use Rattle.tree_read_model.specs.Survey.{treeIn, surveyed, outcomeIn}
 use Rattle.tree_program_model.specs.declared.Arguments.{Arguments}
+use Rattle.tree_program_model.specs.Inner.{Early}
 use Rattle.tree_program_model.specs.Output.{isUnreadable, lossIn, argumentsRead, radioOf, sinkOf, argumentConditions, callOutcome, treeOutput}
 
 -- ---- numbers 9, 10 and 2
@@ -58,6 +59,30 @@ module _ (a : Arguments) (input : List ℕ) where
     unfolding argumentConditions
     two-next e =
         second-part-answers Broken Kept (tooLong input ++ list) (argumentsRead a) (sym (second-part-answers Broken Kept (tooLong input) list (not-long input h)) ∙ e)
+
+-- ---- before the list is decided on
+
+module _ (a : Arguments) (input : List ℕ) where
+  pub early-long : 65536 < length input → Early a input (Broken InputTooLong)
+  early-long h = record { broken = λ r e. sym (too-long a input h) ∙ e; kept = λ e. broken-kept InputTooLong e }
+
+  module _ (h : length input ≤ 65536) (v : Verdict) where
+    -- all arguments can be read
+    pub early-read : v ≡ verdict (argumentsRead a) → v ≡ Kept → Early a input v
+    early-read e k = record { broken = λ r b. broken-kept r (sym b ∙ k); kept = λ _. (h, sym e ∙ k) }
+
+    -- one cannot: 10 comes before 2
+    pub early-ten : (r : Refusal) → v ≡ Broken r → v ≡ verdict (surveyed input (sinkOf a)) → Early a input v
+    early-ten r b e = record {
+      broken = λ x y. sym (ten-broken a input h x (sym e ∙ y));
+      kept = λ k. broken-kept r (sym b ∙ k);
+    }
+
+    pub early-two : (r : Refusal) → v ≡ Broken r → v ≡ verdict (argumentsRead a) → verdict (surveyed input (sinkOf a)) ≡ Kept → Early a input v
+    early-two r b e l = record {
+      broken = λ x y. sym (two-next a input h l) ∙ sym e ∙ y;
+      kept = λ k. broken-kept r (sym b ∙ k);
+    }
 
 -- ---- number 2, argument by argument
 
@@ -131,19 +156,19 @@ module _ (a : Arguments) (input : List ℕ) where
   unfolding treeOutput printed
   output-refused r e = ap (printed treeText) (call-refused r e)
 
-  module _ (k : verdict (argumentConditions a input) ≡ Kept) where
-    list-kept : verdict (surveyed input sink) ≡ Kept
-    unfolding argumentConditions
-    list-kept =
-        unbroken-first Broken Kept (surveyed input sink)
-        (unbroken-right (tooLong input) (surveyed input sink) (unbroken-left (tooLong input ++ surveyed input sink) (argumentsRead a) (kept-unbroken (argumentConditions a input) k)))
-
-    -- where 9, 10 and 2 are kept, the text's outcome is the call's
+  module _ (h : length input ≤ 65536) (k : verdict (argumentsRead a) ≡ Kept) where
+    -- where 9 and 2 are kept, the text's outcome is the call's
     pub call-planned : outcomeIn input b sink ≡ callOutcome a input
     unfolding callOutcome outcomeIn
-    call-planned =
-        sym (second-part-answers Refused (Planned own) (surveyed input sink) checked list-kept)
-        ∙ second-part-answers Refused (Planned own) (argumentConditions a input) checked k
+    call-planned = by (verdict (surveyed input sink)) refl where
+      by : (v : Verdict) → verdict (surveyed input sink) ≡ v
+          → firstBroken Refused (Planned own) (surveyed input sink ++ checked) ≡ firstBroken Refused (Planned own) (argumentConditions a input ++ checked)
+      by Kept e =
+          sym (second-part-answers Refused (Planned own) (surveyed input sink) checked e)
+          ∙ second-part-answers Refused (Planned own) (argumentConditions a input) checked (sym (two-next a input h e) ∙ k)
+      by (Broken r) e =
+          sym (first-part-answers Refused (Planned own) (surveyed input sink) checked r e)
+          ∙ first-part-answers Refused (Planned own) (argumentConditions a input) checked r (sym (ten-broken a input h r e))
 
     module _ (plan : Plan) (e : plan ≡ answer treeText (outcomeIn input b sink)) where
       answered : plan ≡ answer treeText (callOutcome a input)

@@ -1,5 +1,5 @@
 -- `tree_program::put_tree_output` meets its contract. Assumes nothing.
-use mathlib.Core.Path.{_≡_, ap, ap₂, sym, _∙_}
+use mathlib.Core.Path.{_≡_, ap, ap₂, _∙_}
 use mathlib.Core.List.{List}
 use Prim.Native.Nat.{ℕ}
 use native.Mathlib.Omega.{arith}
@@ -29,7 +29,7 @@ same-length c = search needs
 returns : tie.Need-returns
 returns c =
     let a = c .before .before .before .before .before .before .before .before .before .before .args in
-    let e = output-refused (a .arguments) (a .input .now) _ (sym (c .before .before .before .before .before .before .before .check-call .ensures) ∙ c .before .before .before .before .before .verdict .given .1) in
+    let e = output-refused (a .arguments) (a .input .now) _ (c .before .before .before .before .before .before .before .check-call .ensures .broken _ (c .before .before .before .before .before .verdict .given .1)) in
     let put = c .before .before .put-refusal .ensures in
     (put .0 ∙ ap length e, (omega (arith, put .1 .0), put .1 .1 ∙ ap (λ (t : List ℕ). sets (a .out .now) 0 t) e))
 
@@ -57,11 +57,11 @@ same-length-2 c = search needs
 returns-2 : tie.Need-returns-2
 returns-2 c =
     let a = c .before .before .before .before .before .before .before .before .before .before .before .before .before .before .before .before .before .before .args in
-    let k = sym (c .before .before .before .before .before .before .before .before .before .before .before .before .before .before .before .check-call .ensures) ∙ c .before .before .before .before .before .before .before .before .before .before .before .before .before .enum-told .given .1 in
+    let k = c .before .before .before .before .before .before .before .before .before .before .before .before .before .before .before .check-call .ensures .kept (c .before .before .before .before .before .before .before .before .before .before .before .before .before .enum-told .given .1) in
     let plan = c .before .before .before .before .before .before .before .before .before .plan-tree in
     let w = plan .ensures in
     let o = ap₂ (λ (b : Radio) (s : ℕ). outcomeIn (a .input .now) b s) (c .before .before .before .before .before .before .before .before .before .before .before .before .radio-of .ensures) (c .before .before .before .before .before .before .before .before .before .before .before .sink-of .ensures) in
-    let e = plan-refused (a .arguments) (a .input .now) k (plan .result) (w .0 ∙ ap (answer treeText) o) _ (c .before .before .before .before .before .verdict2 .given .1) in
+    let e = plan-refused (a .arguments) (a .input .now) (k .0) (k .1) (plan .result) (w .0 ∙ ap (answer treeText) o) _ (c .before .before .before .before .before .verdict2 .given .1) in
     let put = c .before .before .put-refusal2 .ensures in
     let same : plan .last .1 .1 .1 .0 ≡ a .out .now = w .1 .1 .0 ∙ ap (λ (t : List ℕ). sets (a .out .now) 0 t) (ap (written treeText) o ∙ e .1) in
     (put .0 ∙ ap length (e .0), (omega (arith, put .1 .0), put .1 .1 ∙ ap₂ (λ (b t : List ℕ). sets b 0 t) same (e .0)))
@@ -75,11 +75,11 @@ same-length-3 c = search needs
 returns-3 : tie.Need-returns-3
 returns-3 c =
     let a = c .before .before .before .before .before .before .before .before .before .before .before .before .before .args in
-    let k = sym (c .before .before .before .before .before .before .before .before .before .before .check-call .ensures) ∙ c .before .before .before .before .before .before .before .before .enum-told .given .1 in
+    let k = c .before .before .before .before .before .before .before .before .before .before .check-call .ensures .kept (c .before .before .before .before .before .before .before .before .enum-told .given .1) in
     let plan = c .before .before .before .before .plan-tree in
     let w = plan .ensures in
     let o = ap₂ (λ (b : Radio) (s : ℕ). outcomeIn (a .input .now) b s) (c .before .before .before .before .before .before .before .radio-of .ensures) (c .before .before .before .before .before .before .sink-of .ensures) in
-    let e = plan-planned (a .arguments) (a .input .now) k (plan .result) (w .0 ∙ ap (answer treeText) o) (c .enum-told2 .given .1) in
+    let e = plan-planned (a .arguments) (a .input .now) (k .0) (k .1) (plan .result) (w .0 ∙ ap (answer treeText) o) (c .enum-told2 .given .1) in
     (e .0, (w .1 .0, w .1 .1 .0 ∙ ap (λ (t : List ℕ). sets (a .out .now) 0 t) (ap (written treeText) o ∙ e .1)))
 
 pub put-tree-output-spec : {M : Type 1} → statement M
