@@ -1,8 +1,8 @@
 // The entries for C: a row of settings, from bytes to its answer and its text (document 01, 'Rows of settings'), and surveyed trees.
 // include/planner.h declares them. They hand their arguments on to crates calls, row_calls and tree_calls, and need no proof file.
 //
-// No entry has a `requires`: each answers every argument, as equations with the definitions of calls_model say. What C must see to (pointers
-// that are valid for their lengths, a lent buffer apart from the inputs) is in the header.
+// No entry has a `requires`: each answers every argument, as equations with definitions of calls_model, row_calls_model and tree_calls_model
+// say. What C must see to (pointers that are valid for their lengths, a lent buffer apart from the inputs) is in the header.
 ghost use mathlib.Core.Path.{_≡_};
 ghost use Prim.Native.Nat.{_≤_};
 ghost use Rattle.calls_model.specs.Calls.{left};

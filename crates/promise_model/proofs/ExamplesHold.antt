@@ -6,16 +6,17 @@ use native.Mathlib.Omega.{arith}
 use lib.Dec.{lit<, lit≤}
 use lib.ListN.{length, getD}
 use Rattle.superframe_model.specs.Reservation.{framesIn}
-use Rattle.network.specs.Counting.{total, bit, someBelow, keep, join, All, none, each}
+use Rattle.network.specs.Counting.{total, count, bit, someBelow, keep, join, All, none, each}
 use Rattle.network.specs.Model.{Frame, queue}
 use Rattle.network.specs.Readings.{made}
 use Rattle.network.specs.Run.{deliver, feeds, ends, arrived, arrivals, endExchanges, fresh, makeReadings}
+use Rattle.network.specs.Claim.{cameIn}
 use Rattle.network.specs.Oracle.{isStart, idle, behind, takeOldest, serve, begun, serveAll, symbol, run}
 use Rattle.network.specs.Loads.{Flows, burstAfter, Provisioned}
 use Rattle.network.specs.Examples.{reading, first, asNumbers, received, soonFrom}
 use Rattle.network.proofs.Oracles.{every-choice-is-a-run}
 use Rattle.network.proofs.Stretches.{soon-makes, soon-none, third-frame, too-late}
-use Rattle.promise_model.specs.Promise.{networkOf, Windows, Readings, Keeps}
+use Rattle.promise_model.specs.Promise.{networkOf, Windows, Readings, Held, Keeps}
 use Rattle.promise_model.specs.Laws.{Covered}
 use Rattle.promise_model.specs.Examples.{timing, pair, figures, right, Examples}
 use Rattle.promise_model.proofs.LawsHold.{covered-is-kept}
@@ -97,26 +98,42 @@ buffer-breaks keeps =
     let few : length (queue (run N (soonFrom 60) first 1020) 1) ≤ 2 = held .queues 1 (record { node = lit< tt; notSink = λ e. absurd (omega (arith, e)) }) in
     omega (arith, few, pair-full)
 
+low-fits : (b d burst rate : ℕ) → Windows (timing 60) pair (figures 2 b d burst rate) (λ v. 0)
+unfolding runs
+low-fits b d burst rate v L = lit≤ tt
+
 first-frame : Frame
 first-frame = record { sensor = 1; made = 60; came = 1020 }
 
-pair-comes : run (networkOf (timing 60) pair (figures 2 3 959 2880 2) (λ v. 0)) (soonFrom 60) first 1021 .received ≡ first-frame ∷ []
+-- whatever is promised, the first frame comes in symbol 1020
+late-comes : run (networkOf (timing 60) pair (figures 2 3 959 2880 2) (λ v. 0)) (soonFrom 60) first 1021 .received ≡ first-frame ∷ []
 unfolding runs first-frame
-pair-comes = refl
+late-comes = refl
 
-low-fits : Windows (timing 60) pair (figures 2 3 959 2880 2) (λ v. 0)
-unfolding runs
-low-fits v L = lit≤ tt
+little-comes : run (networkOf (timing 60) pair (figures 2 3 1440 957 2) (λ v. 0)) (soonFrom 60) first 1021 .received ≡ first-frame ∷ []
+unfolding runs first-frame
+little-comes = refl
+
+-- and a promise of two slots holds of the state at its end
+pair-held : (b d burst rate : ℕ) → Keeps (timing 60) pair (figures 2 b d burst rate)
+    → Held (figures 2 b d burst rate) (networkOf (timing 60) pair (figures 2 b d burst rate) (λ v. 0)) (soonFrom 60) 1020
+    (run (networkOf (timing 60) pair (figures 2 b d burst rate) (λ v. 0)) (soonFrom 60) first 1021)
+pair-held b d burst rate keeps =
+    let N = networkOf (timing 60) pair (figures 2 b d burst rate) (λ v. 0) in
+    keeps (λ v. 0) (low-fits b d burst rate) (soonFrom 60) (pair-readings 60 60) (run N (soonFrom 60) first) (every-choice-is-a-run N (soonFrom 60) first) 1020
 
 delay-breaks : ¬ Keeps (timing 60) pair (figures 2 3 959 2880 2)
 unfolding figures first-frame
-delay-breaks keeps =
-    let N = networkOf (timing 60) pair (figures 2 3 959 2880 2) (λ v. 0) in
-    let held = keeps (λ v. 0) low-fits (soonFrom 60) (pair-readings 60 60) (run N (soonFrom 60) first) (every-choice-is-a-run N (soonFrom 60) first) 1020 in
-    by (rw pair-comes at (held .received))
+delay-breaks keeps = by (rw late-comes at (pair-held 3 959 2880 2 keeps .received))
   where
     by : All (λ (f : Frame). f .came ≤ f .made + 959) (first-frame ∷ []) → ⊥
     by (each h t) = omega (arith, h)
+
+stretch-breaks : ¬ Keeps (timing 60) pair (figures 2 3 1440 957 2)
+unfolding timing pair figures first-frame networkOf count bit cameIn
+stretch-breaks keeps =
+    let h : count (cameIn 1020 1) (first-frame ∷ []) * 960 ≤ 957 + 2 * 1 = rw little-comes at (pair-held 3 1440 957 2 keeps .stretches 1020 1) in
+    omega (arith, h)
 
 pair-waits : queue (run (networkOf (timing 160) pair (figures 3 3 1440 2880 2) (λ v. 0)) (soonFrom 0) first 2401) 1 ≡ third-frame ∷ []
 unfolding runs third-frame
@@ -148,6 +165,7 @@ examples-hold = record {
   full = pair-full;
   buffer = buffer-breaks;
   delay = delay-breaks;
+  stretch = stretch-breaks;
   loss = loss-breaks;
   comes = frame-comes;
 }

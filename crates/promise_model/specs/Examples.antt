@@ -44,6 +44,8 @@ pub record Examples : Type 0 where
   pub buffer : ¬ Keeps (timing 60) pair (figures 2 2 1440 2880 2)
   -- nor with delay 959: the first of them, made in the symbol of a start, is sent at the next, and comes 960 symbols after it was made
   pub delay : ¬ Keeps (timing 60) pair (figures 2 3 959 2880 2)
+  -- nor with BURST 957 and RATE 2 at the sink: in the symbol in which that frame comes it gets 1 × 960, more than 957 + 2 × 1
+  pub stretch : ¬ Keeps (timing 60) pair (figures 2 3 1440 957 2)
   -- nor with three slots where an exchange lasts 160 symbols, as for one failed try: they hold one, and the frames wait
   pub loss : ¬ Keeps (timing 160) pair (figures 3 3 1440 2880 2)
   -- there a frame that is sent in symbol 960 comes in 1120

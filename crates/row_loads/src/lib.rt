@@ -1,7 +1,7 @@
 // The links of a row that keeps numbers 3 to 6 of document 01's table: the load and the reservation of every one.
 //
 // No public function has a `requires`: settings may come that nobody checked. Each answers all of them, as equations with definitions of
-// plan_model say. Inner functions presume what the checks before them have found; their `requires` say what.
+// row_plan_model say. Inner functions presume what the checks before them have found; their `requires` say what.
 ghost use mathlib.Core.Path.{_≡_};
 ghost use Rattle.refusals.specs.declared.Verdict.the-variants.{Kept, Broken};
 ghost use Rattle.refusals.specs.Conditions.{firstBroken};

@@ -1,7 +1,7 @@
 // The slots that a row's routers use (document 01, 'The tree and its loads'): the first refusal of numbers 3 to 7, or the row's links.
 //
 // The public function has no `requires`: settings may come that nobody checked. It answers all of them, as equations with definitions of
-// plan_model say. Inner functions presume what the checks before them have found; their `requires` say what.
+// row_plan_model say. Inner functions presume what the checks before them have found; their `requires` say what.
 ghost use mathlib.Core.Path.{_≡_};
 ghost use Rattle.refusals.specs.declared.Verdict.the-variants.{Kept, Broken};
 ghost use Rattle.refusals.specs.Conditions.{firstBroken};

@@ -1,7 +1,7 @@
 // Calls that plan a surveyed tree (document 02, E3 and E5), from a node list as bytes, and numbers beside it, to an answer and a text in a
 // lent buffer.
 //
-// No public function has a `requires`: each answers every argument, as equations with definitions of calls_model say. A refused tree, also
+// No public function has a `requires`: each answers every argument, as equations with definitions of tree_calls_model say. A refused tree, also
 // one whose text is longer than the buffer (number 8), leaves every byte as it was.
 ghost use mathlib.Core.Path.{_≡_};
 ghost use Prim.Native.Nat.{_≤_};
