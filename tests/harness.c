@@ -452,117 +452,25 @@ static const char *fixed_line(uint32_t number, uint32_t place)
     return NULL;
 }
 
-/* The values of a row that was answered with 3 or above: all of them can be read then. LOSS is 0 under 12 names. */
-static void read_values(struct slice row, unsigned *v)
+static void read_reason(const uint8_t *line, size_t line_length, planner_refusal expected)
 {
-    for (size_t i = 0, at = 0; i < COLUMNS; i++, at++)
-        for (v[i] = 0; at < row.length && row.at[at] != ' '; at++)
-            v[i] = 10 * v[i] + (unsigned)(row.at[at] - '0');
+    now.read = planner_read_reason(line, line_length);
+    require(now.read.number == expected.number && now.read.place == expected.place,
+            "not the refusal that the line gives the reason of");
+    lines_read++;
 }
 
-/* Number 4, by its place. Of the two lines for SINK, that with H comes first. */
-static int write_at_odds(char *line, size_t size, uint32_t place, const unsigned *v)
+/* A line of printable bytes that ends with its period, and says what was answered: that it is planned, or a reason from which number and
+ * place are had again. What words it has for them is the second implementation's to know (tests/compare). */
+static void check_line(const uint8_t *line, size_t length, planner_answer a, const char *planned)
 {
-    switch (place) {
-    case 2:
-        return snprintf(line, size, "Values are at odds at SO, which may not be above BO: SO is %u and BO is %u.", v[1],
-                        v[0]);
-    case 4:
-        return snprintf(line, size, "Values are at odds at NR, which is 0 exactly where H is 0: NR is %u and H is %u.",
-                        v[3], v[2]);
-    case 5:
-        return snprintf(line, size, "Values are at odds at NE, since nothing senses: NE is %u and OWN is %u.", v[4],
-                        v[5]);
-    case 7:
-        if (v[6] > v[2])
-            return snprintf(line, size, "Values are at odds at SINK, which may not be above H: SINK is %u and H is %u.",
-                            v[6], v[2]);
-        return snprintf(line, size,
-                        "Values are at odds at SINK, which is 0 where NR is below 2: SINK is %u and NR is %u.", v[6],
-                        v[3]);
-    case 11:
-        return snprintf(line, size,
-                        "Values are at odds at DATA, which with HEAD may not be above 127: HEAD is %u and DATA is %u.",
-                        v[9], v[10]);
-    default:
-        return snprintf(line, size, "Values are at odds at LOSS, which is 0 where ACK is 0: LOSS is %u and ACK is %u.",
-                        v[12], v[11]);
-    }
-}
-
-static int write_routers(char *line, size_t size, const unsigned *v)
-{
-    uint64_t routers = 1;
-    for (unsigned depth = 0; depth < v[2]; depth++)
-        routers = 1 + v[3] * routers;
-    return snprintf(line, size,
-                    "There are more routers than superframes that fit a beacon interval: %" PRIu64
-                    " against %u.",
-                    routers, 1u << (v[0] - v[1]));
-}
-
-/*
- * Request E2: the slots that a router at this depth may reserve, which are those that its contention period leaves. As
- * number 5 comes before 7, it has at most 7 reservations, and that period has at most 9 of the 16 slots.
- */
-static unsigned reservable(uint32_t depth, const unsigned *v)
-{
-    unsigned slot = 60u << v[1], reservations = v[4] + (depth < v[2] ? v[3] : 0);
-    unsigned beacon = reservations == 0 ? 38 : 40 + 6 * reservations;
-    return 16 - (440 + beacon + slot - 1) / slot;
-}
-
-/* The slots used are not counted here: the figure is taken from the line that was found, and must be too large. */
-static int write_slots(char *line, size_t size, uint32_t depth, const unsigned *v, struct slice found)
-{
-    unsigned most = reservable(depth, v);
-    uint64_t used = 0;
-    size_t at = 0;
-    while (at < found.length && found.at[at] != ':')
-        at++;
-    for (at += 2; at < found.length && found.at[at] >= '0' && found.at[at] <= '9'; at++)
-        used = 10 * used + (uint64_t)(found.at[at] - '0');
-    require(used > most, "a line that says that slots suffice");
-    return snprintf(line, size,
-                    "The slots used at depth %" PRIu32 " are more than can be reserved: %" PRIu64
-                    " used and %u reservable.",
-                    depth, used, most);
-}
-
-/* The line of the row for this answer of planner_check_row. */
-static int write_line(char *line, size_t size, planner_answer a, struct slice found)
-{
-    unsigned v[COLUMNS];
+    require(length > 0 && length <= PLANNER_LONGEST_REASON, "a line longer than PLANNER_LONGEST_REASON, or none");
+    for (size_t i = 0; i < length; i++)
+        require(line[i] >= 32 && line[i] <= 126, "a byte in a line that cannot be printed");
+    require(line[length - 1] == '.', "a line without its period");
     if (a.number == 0)
-        return snprintf(line, size, PLANNED_LINE);
-    if (a.number == 1)
-        return snprintf(line, size, "%s", fixed_line(1, 0));
-    if (a.number == 2 && a.place > columns_named())
-        return snprintf(line, size, "There is text after the last value, where column %" PRIu32 " would be.", a.place);
-    if (a.number == 2)
-        return snprintf(line, size, "The value of %s is unreadable or missing.", columns[a.place - 1]);
-    read_values(now.row, v);
-    switch (a.number) {
-    case 3:
-        return snprintf(line, size, "The value of %s is outside its range: it is %u.", columns[a.place - 1],
-                        v[a.place - 1]);
-    case 4:
-        return write_at_odds(line, size, a.place, v);
-    case 5:
-        return snprintf(line, size, "A router would have more than 7 reservations: NE is %u and NR is %u.", v[4], v[3]);
-    case 6:
-        return write_routers(line, size, v);
-    default:
-        return write_slots(line, size, a.place, v, found);
-    }
-}
-
-static void check_line(const uint8_t *line, size_t length)
-{
-    char expected[LONGEST_LINE];
-    int n = write_line(expected, sizeof expected, now.check, (struct slice){line, length});
-    require(length <= PLANNER_LONGEST_REASON, "a line longer than PLANNER_LONGEST_REASON");
-    require(n > 0 && (size_t)n == length && memcmp(line, expected, length) == 0, "not the line that is due");
+        require(length == strlen(planned) && memcmp(line, planned, length) == 0, "not the line that is due");
+    read_reason(line, length, (planner_refusal){a.number, a.place});
 }
 
 /* The line of the row that was planned last; the time that was set for that call goes on. */
@@ -578,18 +486,10 @@ static planner_answer explain_row(const uint8_t *names, size_t names_length, con
     } else {
         require(now.explain.number == now.check.number && now.explain.place == now.check.place,
                 "planner_check_row and planner_explain_row do not agree");
-        check_line(line, (size_t)now.explain.length);
+        check_line(line, (size_t)now.explain.length, now.check, PLANNED_LINE);
     }
     explained[now.explain.number]++;
     return now.explain;
-}
-
-static void read_reason(const uint8_t *line, size_t line_length, planner_refusal expected)
-{
-    now.read = planner_read_reason(line, line_length);
-    require(now.read.number == expected.number && now.read.place == expected.place,
-            "not the refusal that the line gives the reason of");
-    lines_read++;
 }
 
 /* ---- What a text must look like, and what must be unchanged ---- */
@@ -1505,33 +1405,6 @@ static void check_tree_text(const uint8_t *text, size_t length)
     require(lines == nodes, "not a line for each node");
 }
 
-/* What the line of this answer begins with; its values, if it has any, are read but not compared. */
-static void check_tree_line(const uint8_t *line, size_t length, planner_answer a)
-{
-    char start[LONGEST_LINE];
-    size_t n = 0;
-    if (a.number == 0)
-        n = (size_t)snprintf(start, sizeof start, "The tree is planned.");
-    else if (a.number == 3)
-        n = (size_t)snprintf(start, sizeof start, "The value of %s is outside its range: it is ", columns[a.place - 1]);
-    else if (a.number == 4)
-        n = (size_t)snprintf(start, sizeof start, "Values are at odds at %s, which ", columns[a.place - 1]);
-    else if (a.number == 5)
-        n = (size_t)snprintf(start, sizeof start, "Router %" PRIu32 " would have more than 7 reservations: ", a.place);
-    else if (a.number == 6)
-        n = (size_t)snprintf(start, sizeof start, "There are more routers than superframes that fit ");
-    else if (a.number == 7)
-        n = (size_t)snprintf(start, sizeof start, "The slots used at router %" PRIu32 " are more than can", a.place);
-    else if (a.place > 0)
-        n = (size_t)snprintf(start, sizeof start, "Line %" PRIu32 " of the node list breaks a rule or is missing.",
-                             a.place);
-    else
-        n = (size_t)snprintf(start, sizeof start, "The ");
-    require(length <= PLANNER_LONGEST_REASON && length >= n && memcmp(line, start, n) == 0, "not the line that is due");
-    require(line[length - 1] == '.', "a line without its period");
-    read_reason(line, length, (planner_refusal){a.number, a.place});
-}
-
 /* The list's line: in the longest room that a line needs, in its own length, and in one byte less. */
 static void explain_tree_between_guards(const uint8_t *nodes, bool in_front, const uint8_t *fill)
 {
@@ -1548,7 +1421,7 @@ static void explain_tree_between_guards(const uint8_t *nodes, bool in_front, con
         }
         require(now.explain.number == now.check.number && now.explain.place == now.check.place,
                 "planner_check_tree and planner_explain_tree do not agree");
-        check_tree_line(line, (size_t)now.explain.length, now.check);
+        check_line(line, (size_t)now.explain.length, now.check, "The tree is planned.");
         rooms[1] = (size_t)now.explain.length;
         rooms[2] = rooms[1] - 1;
     }

@@ -4,7 +4,7 @@ use Prim.Native.Nat.{ℕ}
 use native.Mathlib.Omega.{arith}
 use lib.ListN.{take}
 use Rattle.decimal_model.specs.Ascii.{ascii}
-use Rattle.refusals.specs.Refusals.{numberOf, placeOf}
+use Rattle.refusals.proofs.Computing.{tabled}
 use Rattle.refusals.specs.Conditions.{firstBroken}
 use Rattle.reason_model.specs.declared.ReasonRead.the-variants.{Reason}
 use Rattle.reason_model.specs.Reading.{readReason}
@@ -14,7 +14,7 @@ use Rattle.calls_model.specs.Reasons.{lineLeft, plain, lineAmong, explai
 use Rattle.calls_model.specs.Examples.{lent, planned, refused, Examples, line, Spoken, OtherPlaceBreaks}
 
 pub examples-hold : Examples
-unfolding ascii numberOf placeOf firstBroken answerToRefusal answerTo bufferAfter room outcomeWithin leaves lent planned refused
+unfolding ascii tabled firstBroken answerToRefusal answerTo bufferAfter room outcomeWithin leaves lent planned refused
 examples-hold = record { exact = refl; more = refl; oneLess = refl; none = refl; oneBeforeEight = refl }
 
 pub spoken-hold : Spoken

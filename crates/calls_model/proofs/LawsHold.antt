@@ -8,7 +8,7 @@ use lib.Seq.{take-append-seam}
 use Rattle.refusals.specs.declared.Refusal.{Refusal}
 use Rattle.refusals.specs.Conditions.{Condition, firstBroken, Unbroken}
 use Rattle.refusals.specs.Outcome.{Outcome, Planned, Refused}
-use Rattle.refusals.proofs.Numbers.{numbered}
+use Rattle.refusals.proofs.Sorts.{numbered}
 use Rattle.calls_model.specs.Calls.{answerToRefusal, answerTo, bufferAfter, outcomeWithin, leaves, IsPlanned, StandsIn}
 use Rattle.calls_model.specs.Laws.{LengthStays, RefusalLeaves, AskedFirst, TextStands}
 use Rattle.calls_model.proofs.Rooms.{roomed-refused, roomed-planned, roomed-unbroken, roomed-own, roomed-fits}

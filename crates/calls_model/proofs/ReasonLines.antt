@@ -9,7 +9,7 @@ use lib.ListN.{length, take, drop}
 use lib.Seq.{take-at, take-length}
 use borrow.Author.Tests.{lt-ltb, le-ltb, ne-eqb}
 use Rattle.refusals.specs.declared.Refusal.the-variants.{Names, LentTooShort, InputTooLong}
-use Rattle.refusals.specs.Refusals.{numberOf, placeOf}
+use Rattle.refusals.proofs.Computing.{tabled}
 use Rattle.refusals.specs.Outcome.{Outcome, Planned, Refused}
 use Rattle.refusals.specs.declared.Refusal.{Refusal}
 use Rattle.refusals.specs.declared.Verdict.{Verdict}
@@ -38,24 +38,24 @@ module _ (number place : ℕ) (line before : List ℕ) where
 -- ---- the line of a refusal by its number and place
 
 pub line-elsewhere : (number place : ℕ) → 0 < place → lineAmong plain number place ≡ []
-unfolding lineAmong plain numberOf placeOf
+unfolding lineAmong plain tabled
 line-elsewhere number place h =
     rw (ne-eqb place 0 (λ e. absurd (omega arith)), and-false, and-false, and-false) refl
 
 pub line-of-one : lineAmong plain 1 0 ≡ reason Names
-unfolding lineAmong plain numberOf placeOf
+unfolding lineAmong plain tabled
 line-of-one = refl
 
 pub line-of-eight : lineAmong plain 8 0 ≡ reason LentTooShort
-unfolding lineAmong plain numberOf placeOf
+unfolding lineAmong plain tabled
 line-of-eight = refl
 
 pub line-of-nine : lineAmong plain 9 0 ≡ reason InputTooLong
-unfolding lineAmong plain numberOf placeOf
+unfolding lineAmong plain tabled
 line-of-nine = refl
 
 pub line-of-others : (number place : ℕ) → (number ≡ 1 → ⊥) → (number ≡ 8 → ⊥) → (number ≡ 9 → ⊥) → lineAmong plain number place ≡ []
-unfolding lineAmong plain numberOf placeOf
+unfolding lineAmong plain tabled
 line-of-others number place f g h = rw (ne-eqb number 1 f, ne-eqb number 8 g, ne-eqb number 9 h) refl
 
 -- ---- number and place can be had again
@@ -71,7 +71,7 @@ module _ {P : Type 0} (text : P → List ℕ) (say : Verdict → List ℕ) (brok
 
   pub line-again : (o : Outcome P) (before : List ℕ) (a : Answer) (after : List ℕ)
       → left a after ≡ lineLeft (answerTo text o .number) (answerTo text o .place) (say (answer text o .verdict)) before → a .place < 2 ^ 32 → ReadAgain a after
-  unfolding lineLeft answerToRefusal numberOf
+  unfolding lineLeft answerToRefusal tabled
   line-again o before a after e h low high = by (ltb (length before) (length line)) e
     where
       line : List ℕ

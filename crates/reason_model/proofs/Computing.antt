@@ -3,15 +3,15 @@ use Rattle.decimal_model.specs.Ascii.{ascii}
 use Rattle.decimal_model.specs.Number.{digits, zeroLed, spelledAfter}
 use Rattle.decimal_model.specs.Decimal.{digitsBy, decimal}
 use Rattle.lines.specs.Text.{same}
-use Rattle.refusals.specs.Refusals.{conflictPlace, treeNumber, treePlace, numberOf, placeOf}
+use Rattle.refusals.proofs.Computing.{tabled}
 use Rattle.settings_model.specs.Columns.{twelve, everyColumn, columnAt}
-use Rattle.reason_model.specs.Reasons.{named, columnName, ruleOf, treePhrase, phraseOf, valuesAtOdds, treeValues, valuesOf, partOf, partText, taken, filled, reason, verdictLine}
-use Rattle.reason_model.specs.Reading.{wordByte, wordLength, numeral, placeIn, columnFrom, unnamed, columnIn, extent, meant, matched, sorts, readAs, readFrom, readReason}
+use Rattle.reason_model.specs.Reasons.{named, columnName, phraseAt, partOf, partText, taken, filled, reason, verdictLine}
+use Rattle.reason_model.specs.Reading.{wordByte, wordLength, numeral, placeIn, columnFrom, unnamed, columnIn, extent, meant, matched, readAs, readFrom, readReason}
 
 unfoldable pub worded : Type 0
-unfolding ascii digitsBy decimal conflictPlace treeNumber treePlace numberOf placeOf twelve everyColumn columnAt named columnName ruleOf treePhrase phraseOf valuesAtOdds treeValues valuesOf partOf partText taken filled reason verdictLine
+unfolding ascii digitsBy decimal tabled twelve everyColumn columnAt named columnName phraseAt partOf partText taken filled reason verdictLine
 worded = Unit
 
 unfoldable pub taken-in : Type 0
-unfolding worded digits zeroLed spelledAfter same wordByte wordLength numeral placeIn columnFrom unnamed columnIn extent meant matched sorts readAs readFrom readReason
+unfolding worded digits zeroLed spelledAfter same wordByte wordLength numeral placeIn columnFrom unnamed columnIn extent meant matched readAs readFrom readReason
 taken-in = Unit

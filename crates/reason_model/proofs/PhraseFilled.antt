@@ -6,7 +6,10 @@ use Prim.Native.Nat.{ℕ, _+_}
 use lib.ListN.{getD, take, drop, take-append-drop}
 use Rattle.lines.specs.Text.{same}
 use Rattle.lines.proofs.Sameness.{same-equal}
+use borrow.Author.Tests.{not-true}
 use Rattle.decimal_model.specs.Number.{spelled}
+use Rattle.refusals.specs.Table.{Placing, Always, Own, placeSaid}
+use Rattle.refusals.proofs.Sorts.{placeFor}
 use Rattle.reason_model.specs.declared.Match.{Match}
 use Rattle.reason_model.specs.declared.Match.the-variants.{At, Nowhere}
 use Rattle.reason_model.specs.Reasons.{Part, Byte, Name, Place, Value, partText, taken, filled}
@@ -41,6 +44,26 @@ unmarked-placed q p (Byte b ∷ xs) u = unmarked-placed q p xs u
 unmarked-placed q p (Name ∷ xs) u = absurd (false≢true u)
 unmarked-placed q p (Place ∷ xs) u = absurd (false≢true u)
 unmarked-placed q p (Value ∷ xs) u = unmarked-placed q p xs u
+
+-- where the place stands in a phrase, it is read from there
+marked-placed : (q p : ℕ) (xs : List Part) → unmarked xs ≡ false → once xs ≡ true → placed q p xs ≡ p
+unfolding unmarked once placed stood isMark
+marked-placed q p [] u o = absurd (false≢true (sym u))
+marked-placed q p (Byte b ∷ xs) u o = marked-placed q p xs u o
+marked-placed q p (Name ∷ xs) u o = unmarked-placed p p xs o
+marked-placed q p (Place ∷ xs) u o = unmarked-placed p p xs o
+marked-placed q p (Value ∷ xs) u o = marked-placed q p xs u o
+
+-- a phrase says the place exactly where each refusal of its sort has its own
+unfoldable pub agrees : Placing → List Part → Bool
+agrees (Always n) xs = unmarked xs
+agrees Own xs = not (unmarked xs)
+
+-- so the place that is read is the one that the sort leaves
+pub place-read : (pl : Placing) (p : ℕ) (xs : List Part) → agrees pl xs ≡ true → once xs ≡ true → placed (placeSaid pl) p xs ≡ placeFor pl p
+unfolding agrees placeSaid placeFor
+place-read (Always n) p xs a o = unmarked-placed n p xs a
+place-read Own p xs a o = marked-placed 0 p xs (not-true (unmarked xs) a) o
 
 -- values with which a phrase is this line, and the place that it has then
 pub record Fills (q p : ℕ) (xs : List Part) (t : List ℕ) : Type 0 where

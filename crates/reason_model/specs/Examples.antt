@@ -1,18 +1,23 @@
 -- A line for each number and each place of 4, with number and place had again from it, and lines that are no reason, computed in one
 -- table. Assumes nothing.
 use mathlib.Core.Path.{_≡_}
-use mathlib.Core.List.{List, [], _∷_, map}
+use mathlib.Core.Bool.{Bool, true, not, _||_}
+use mathlib.Core.List.{List, [], _∷_, _++_, map}
 use Prim.Native.Nat.{ℕ}
 use Prim.Native.String.{String}
+use lib.Dec.{eqb}
+use lib.ListN.{length, take}
 use Rattle.decimal_model.specs.Ascii.{ascii}
+use Rattle.lines.specs.Text.{same}
 use Rattle.refusals.specs.declared.Refusal.{Refusal}
 use Rattle.refusals.specs.declared.Refusal.the-variants.{Names, Unreadable, TextAfter, OutOfRange, AtOdds, Reservations, Superframes, SlotsUsed, LentTooShort, InputTooLong, InTree}
 use Rattle.refusals.specs.declared.TreeRefusal.the-variants.{NodeNames, NodeLine, SinkNode, RouterReservations, RouterSlots}
 use Rattle.refusals.specs.declared.Conflict.the-variants.{Orders, Routers, Sensors, SinkDepth, SinkBranches, FrameLength, Unacknowledged}
+use Rattle.refusals.specs.Table.{Sort, table, placeSaid}
 use Rattle.measure.specs.Measures.{slots}
 use Rattle.reason_model.specs.declared.ReasonRead.{ReasonRead}
 use Rattle.reason_model.specs.declared.ReasonRead.the-variants.{Reason, NoReason}
-use Rattle.reason_model.specs.Reasons.{reason}
+use Rattle.reason_model.specs.Reasons.{columnName, reason}
 use Rattle.reason_model.specs.Reading.{readReason}
 
 -- a refusal, its line, and its number and place
@@ -84,3 +89,12 @@ others =
 
 abbrev pub OthersHold : Type 0
 OthersHold = map (λ (s : String). readReason (ascii s)) others ≡ map (λ (s : String). NoReason) others
+
+-- "the column's name": a phrase of number 4 begins with that of the column at its place
+unfoldable pub beginsNamed : Sort → Bool
+beginsNamed s =
+    let beginning : List ℕ = ascii "Values are at odds at " ++ columnName (placeSaid (s .place)) ++ ascii "," in
+    not (eqb (s .number) 4) || same (take (length beginning) (ascii (s .phrase))) beginning
+
+abbrev pub ConflictsNamed : Type 0
+ConflictsNamed = map beginsNamed table ≡ map (λ (s : Sort). true) table

@@ -7,18 +7,13 @@ use lib.ListN.{length, take, drop}
 use Rattle.decimal_model.specs.Ascii.{ascii}
 use Rattle.decimal_model.specs.Number.{digit, digits, zeroLed, spelled}
 use Rattle.lines.specs.Text.{same}
-use Rattle.refusals.specs.declared.Refusal.{Refusal}
-use Rattle.refusals.specs.declared.Refusal.the-variants.{Names, Unreadable, TextAfter, OutOfRange, AtOdds, Reservations, Superframes, SlotsUsed, LentTooShort, InputTooLong, InTree}
-use Rattle.refusals.specs.declared.TreeRefusal.the-variants.{NodeNames, NodeLine, SinkNode, RouterReservations, RouterSlots}
-use Rattle.refusals.specs.declared.Conflict.the-variants.{Orders, Routers, Sensors, SinkDepth, SinkBranches, FrameLength, Unacknowledged}
-use Rattle.refusals.specs.Refusals.{numberOf, placeOf}
-use Rattle.measure.specs.Measures.{slots}
+use Rattle.refusals.specs.Table.{Sort, table, placeSaid}
 use Rattle.settings_model.specs.Columns.{Column, everyColumn}
 use Rattle.reason_model.specs.declared.ReasonRead.{ReasonRead}
 use Rattle.reason_model.specs.declared.ReasonRead.the-variants.{Reason, NoReason}
 use Rattle.reason_model.specs.declared.Match.{Match}
 use Rattle.reason_model.specs.declared.Match.the-variants.{At, Nowhere}
-use Rattle.reason_model.specs.Reasons.{named, phraseOf, Part, Byte, Name, Place, Value, partOf}
+use Rattle.reason_model.specs.Reasons.{named, Part, Byte, Name, Place, Value, partOf}
 
 -- ---- words: names are capitals, and numbers digits
 
@@ -75,43 +70,18 @@ matched [] Nowhere t = Nowhere
 matched (x ∷ xs) (At p) t = matched xs (meant p x (take (extent x t) t)) (drop (extent x t) t)
 matched (x ∷ xs) Nowhere t = Nowhere
 
--- ---- the table of phrases, with one refusal of each sort
+-- ---- the table's phrases, one after another
 
-unfoldable pub sorts : List Refusal
-sorts =
-    Names
-    ∷ Unreadable 0
-    ∷ TextAfter 0
-    ∷ OutOfRange 0 0
-    ∷ AtOdds (Orders 0 0)
-    ∷ AtOdds (Routers 0 0)
-    ∷ AtOdds (Sensors 0 0)
-    ∷ AtOdds (SinkDepth 0 0)
-    ∷ AtOdds (SinkBranches 0 0)
-    ∷ AtOdds (FrameLength 0 0)
-    ∷ AtOdds (Unacknowledged 0 0)
-    ∷ Reservations 0 0
-    ∷ Superframes 0 0
-    ∷ SlotsUsed 0 (slots 0) (slots 0)
-    ∷ LentTooShort
-    ∷ InputTooLong
-    ∷ InTree NodeNames
-    ∷ InTree (NodeLine 0)
-    ∷ InTree SinkNode
-    ∷ InTree (RouterReservations 0 0)
-    ∷ InTree (RouterSlots 0 (slots 0) (slots 0))
-    ∷ []
-
--- a place that was read for a refusal of this sort, or what other sorts read
-unfoldable pub readAs : Refusal → Match → ReasonRead → ReasonRead
-readAs r (At p) other = Reason (numberOf r) p
-readAs r Nowhere other = other
+-- a place that was read for a sort's phrase, or what later sorts read
+unfoldable pub readAs : Sort → Match → ReasonRead → ReasonRead
+readAs s (At p) other = Reason (s .number) p
+readAs s Nowhere other = other
 
 -- number and place by the first of these sorts whose phrase the line is
-unfoldable pub readFrom : List Refusal → List ℕ → ReasonRead
+unfoldable pub readFrom : List Sort → List ℕ → ReasonRead
 readFrom [] line = NoReason
-readFrom (r ∷ rs) line = readAs r (matched (map partOf (phraseOf r)) (At (placeOf r)) line) (readFrom rs line)
+readFrom (s ∷ ss) line = readAs s (matched (map partOf (ascii (s .phrase))) (At (placeSaid (s .place))) line) (readFrom ss line)
 
 -- number and place of a line, if it is a reason
 unfoldable pub readReason : List ℕ → ReasonRead
-readReason line = readFrom sorts line
+readReason line = readFrom table line

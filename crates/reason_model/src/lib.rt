@@ -12,10 +12,3 @@ pub enum Match {
     At(u32),
     Nowhere,
 }
-
-// How a refusal is worded: the position of its sort in the table, and the values concerned, of which a phrase takes none, one or both.
-pub struct Wording {
-    pub sort: usize,
-    pub first: u64,
-    pub second: u64,
-}

@@ -8,13 +8,12 @@ ghost use lib.ListN.{length};
 ghost use lib.Seq.{sets};
 ghost use Rattle.reason_model.specs.Reasons.{reason, verdictLine};
 use crate::filling::put_filled;
-use crate::wording::wording_of;
 use buffer::put_bytes;
 use reason_table::phrases::put_phrase;
 use refusals::Refusal;
 use refusals::Verdict;
+use refusals::cases::facts_of;
 
-mod wording; // its sort and its values
 mod filling; // a phrase with its gaps filled
 
 // No line is longer.
@@ -26,16 +25,10 @@ pub fn put_reason(out: &mut [u8], refusal: Refusal) -> usize
     ensures { λ r. ⌜ r ≤ 160 ⌝ }
     ensures { λ _. ⌜ now (out .exit) ≡ sets (now (out .entry)) 0 (reason refusal) ⌝ }
 {
-    let wording = wording_of(refusal);
+    let facts = facts_of(refusal);
     let mut phrase = [0u8; 128];
-    let n = put_phrase(&mut phrase, wording.sort);
-    put_filled(
-        out,
-        &phrase[..n],
-        refusal.place(),
-        wording.first,
-        wording.second,
-    )
+    let n = put_phrase(&mut phrase, facts.sort);
+    put_filled(out, &phrase[..n], facts.place, facts.first, facts.second)
 }
 
 // Puts the line of a row that was refused, or that it is planned, and answers its length.

@@ -4,9 +4,10 @@
 ghost use mathlib.Core.Path.{_≡_};
 ghost use Rattle.reason_model.specs.Reading.{readReason};
 use crate::matching::match_sort;
-use crate::matching::sort_number;
 use reason_model::Match;
 use reason_model::ReasonRead;
+use refusals::table::SORTS;
+use refusals::table::number_at;
 
 mod numbers; // numbers in decimal, of any length
 mod names; // columns by their names
@@ -17,11 +18,11 @@ pub fn read_reason(line: &[u8]) -> ReasonRead
     ensures { λ r. ⌜ r ≡ readReason (now (line .entry)) ⌝ }
 {
     let mut sort = 0;
-    while sort < 21 {
+    while sort < SORTS {
         let found = match_sort(line, sort);
         if let Match::At(place) = found {
             return ReasonRead::Reason {
-                number: sort_number(sort),
+                number: number_at(sort),
                 place,
             };
         }

@@ -2,94 +2,28 @@
 ghost use mathlib.Core.Path.{_≡_};
 ghost use mathlib.Core.Bool.{cond};
 ghost use mathlib.Core.List.{[], _∷_, map};
-ghost use Prim.Native.Nat.{_+_, _≤_, _<_, min};
+ghost use Prim.Native.Nat.{_+_, _≤_, min};
 ghost use lib.ListN.{length, drop};
 ghost use Rattle.lines.specs.Text.{same};
-ghost use Rattle.refusals.specs.Refusals.{numberOf, placeOf};
+ghost use Rattle.refusals.specs.Table.{sortAt, placeSaid};
 ghost use Rattle.reason_model.specs.declared.Match.the-variants.{At, Nowhere};
-ghost use Rattle.reason_model.specs.Reasons.{partOf};
+ghost use Rattle.reason_model.specs.Reasons.{phraseAt, partOf};
 ghost use Rattle.reason_model.specs.Reading.{wordByte, wordLength, extent, meant, matched};
-ghost use Rattle.reason_model.specs.Inner.{sortAt, phraseAt};
 use crate::names::column_in;
 use crate::numbers::is_numeral;
 use crate::numbers::place_in;
 use decimal::is_digit;
 use reason_model::Match;
 use reason_table::phrases::put_phrase;
-
-// The sorts' numbers, and their places where the phrase does not say it.
-const NUMBERS: [u32; 21] = [
-    1,
-    2,
-    2,
-    3,
-    4,
-    4,
-    4,
-    4,
-    4,
-    4,
-    4,
-    5,
-    6,
-    7,
-    8,
-    9,
-    10,
-    10,
-    10,
-    5,
-    7,
-];
-
-const PLACES: [u32; 21] = [
-    0,
-    0,
-    0,
-    0,
-    2,
-    4,
-    5,
-    7,
-    7,
-    11,
-    13,
-    0,
-    0,
-    0,
-    0,
-    0,
-    0,
-    0,
-    0,
-    0,
-    0,
-];
+use refusals::table::place_at;
 
 // The place that a line has, where it is the phrase of this sort with its gaps filled.
 pub(crate) fn match_sort(line: &[u8], sort: usize) -> Match
-    requires { ⌜ sort < 21 ⌝ }
-    ensures { λ r. ⌜ r ≡ matched (map partOf (phraseAt sort)) (At (placeOf (sortAt sort))) (now (line .entry)) ⌝ }
+    ensures { λ r. ⌜ r ≡ matched (map partOf (phraseAt sort)) (At (placeSaid (sortAt sort .place))) (now (line .entry)) ⌝ }
 {
     let mut phrase = [0u8; 128];
     let n = put_phrase(&mut phrase, sort);
-    match_phrase(line, &phrase[..n], sort_place(sort))
-}
-
-// The number of a sort.
-pub(crate) fn sort_number(sort: usize) -> u32
-    requires { ⌜ sort < 21 ⌝ }
-    ensures { λ r. ⌜ r ≡ numberOf (sortAt sort) ⌝ }
-{
-    NUMBERS[sort]
-}
-
-// The place of a sort, where its phrase does not say it.
-fn sort_place(sort: usize) -> u32
-    requires { ⌜ sort < 21 ⌝ }
-    ensures { λ r. ⌜ r ≡ placeOf (sortAt sort) ⌝ }
-{
-    PLACES[sort]
+    match_phrase(line, &phrase[..n], place_at(sort))
 }
 
 // The place that a line has, where it is this phrase with its gaps filled, and that place where the phrase does not say it.

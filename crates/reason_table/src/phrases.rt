@@ -2,11 +2,12 @@
 //
 // A constant is put on the stack wherever it is used, so the table is in three parts of about 450 bytes.
 ghost use mathlib.Core.Path.{_≡_};
-ghost use Prim.Native.Nat.{_≤_, _<_};
+ghost use Prim.Native.Nat.{_≤_};
 ghost use lib.ListN.{length};
 ghost use lib.Seq.{sets};
-ghost use Rattle.reason_model.specs.Inner.{phraseAt};
+ghost use Rattle.reason_model.specs.Reasons.{phraseAt};
 use crate::texts::put_between;
+use refusals::table::SORTS;
 
 // The phrases of sorts 0 to 6, one behind another; where each starts, and where the last one ends.
 const FIRST: [u8; 405] = *b"\
@@ -44,31 +45,22 @@ const THIRD: [u8; 454] = *b"\
 
 const THIRD_STARTS: [usize; 9] = [0, 81, 136, 167, 224, 276, 310, 372, 454];
 
-// Puts the phrase of a sort, and answers its length. There are 21 sorts; any other counts as the first.
+// Puts the phrase of a sort, and answers its length; nothing where there is no such sort.
 pub fn put_phrase(out: &mut [u8], sort: usize) -> usize
     ensures { λ r. ⌜ r ≡ length (phraseAt sort) ⌝ }
     ensures { λ r. ⌜ r ≤ 128 ⌝ }
     ensures { λ _. ⌜ now (out .exit) ≡ sets (now (out .entry)) 0 (phraseAt sort) ⌝ }
 {
-    let k = known_sort(sort);
-    if k < 7 {
-        return put_between(out, 0, &FIRST, FIRST_STARTS[k], FIRST_STARTS[k + 1]);
+    if sort < 7 {
+        return put_between(out, 0, &FIRST, FIRST_STARTS[sort], FIRST_STARTS[sort + 1]);
     }
-    if k < 13 {
-        let k = k - 7;
+    if sort < 13 {
+        let k = sort - 7;
         return put_between(out, 0, &SECOND, SECOND_STARTS[k], SECOND_STARTS[k + 1]);
     }
-    let k = k - 13;
-    put_between(out, 0, &THIRD, THIRD_STARTS[k], THIRD_STARTS[k + 1])
-}
-
-// A sort of the table.
-fn known_sort(sort: usize) -> usize
-    ensures { λ r. ⌜ r < 21 ⌝ }
-    ensures { λ r. ⌜ phraseAt r ≡ phraseAt sort ⌝ }
-{
-    if sort < 21 {
-        return sort;
+    if sort < SORTS {
+        let k = sort - 13;
+        return put_between(out, 0, &THIRD, THIRD_STARTS[k], THIRD_STARTS[k + 1]);
     }
     0
 }

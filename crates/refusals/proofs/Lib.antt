@@ -7,7 +7,9 @@ pub mod Unbroken
 pub mod Outcomes
 -- the examples of specs/Examples
 pub mod ExamplesHold
--- every refusal has a number
-pub mod Numbers
+-- every refusal is of a sort of the table, and has a number
+pub mod Sorts
 -- one condition that a number passes a limit
 pub mod Limits
+-- all that number and place are computed with
+pub mod Computing

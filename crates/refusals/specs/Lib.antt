@@ -1,5 +1,7 @@
 -- What a reader must believe of refusals, in reading order. Assumes nothing.
--- number and place of each refusal
+-- the table: number, place and phrase of each sort of refusal
+pub mod Table
+-- the sort of each refusal, its place and the values concerned
 pub mod Refusals
 -- conditions checked in order
 pub mod Conditions

@@ -1,63 +1,58 @@
--- Number and place of each refusal (document 01, the table of 'Rows of settings'; document 02, E3 and E5). Assumes nothing: these are definitions.
+-- Number and place of each refusal: what its row of the table says, with the place and the values that it carries. Assumes nothing: these are
+-- definitions.
 use Prim.Native.Nat.{ℕ}
+use Rattle.refusals.specs.declared.Facts.{Facts}
 use Rattle.refusals.specs.declared.Refusal.{Refusal}
 use Rattle.refusals.specs.declared.Refusal.the-variants.{Names, Unreadable, TextAfter, OutOfRange, AtOdds, Reservations, Superframes, SlotsUsed, LentTooShort, InputTooLong, InTree}
 use Rattle.refusals.specs.declared.TreeRefusal.{TreeRefusal}
 use Rattle.refusals.specs.declared.TreeRefusal.the-variants.{NodeNames, NodeLine, SinkNode, RouterReservations, RouterSlots}
 use Rattle.refusals.specs.declared.Conflict.{Conflict}
 use Rattle.refusals.specs.declared.Conflict.the-variants.{Orders, Routers, Sensors, SinkDepth, SinkBranches, FrameLength, Unacknowledged}
+use Rattle.refusals.specs.Table.{sortAt, placeSaid}
 
--- "SO > BO (place 2); NR = 0 with H > 0, or NR > 0 with H = 0 (4); NE = OWN = 0 (5); SINK > H, or SINK > 0 with NR < 2 (7);
--- HEAD + DATA > 127 (11)"; E5: "LOSS > 0 with ACK 0 is 4, place 13"
-unfoldable pub conflictPlace : Conflict → ℕ
-conflictPlace (Orders so bo) = 2
-conflictPlace (Routers nr h) = 4
-conflictPlace (Sensors ne own) = 5
-conflictPlace (SinkDepth sink h) = 7
-conflictPlace (SinkBranches sink nr) = 7
-conflictPlace (FrameLength head payload) = 11
-conflictPlace (Unacknowledged loss ack) = 13
+-- of row k, at its own place p, with these values
+abbrev pub placed : ℕ → ℕ → ℕ → ℕ → Facts
+placed k p a b = record { sort = k; place = p; first = a; second = b }
 
--- E3: "Refused: 10, a node line, the sink or the text breaks a rule here, place its line (node 1's is 1, also if missing) or 0 for names and
--- sink"; "router by router from the lowest number, 5 and 7 with that number as place"
-unfoldable pub treeNumber : TreeRefusal → ℕ
-treeNumber NodeNames = 10
-treeNumber (NodeLine line) = 10
-treeNumber SinkNode = 10
-treeNumber (RouterReservations router reservations) = 5
-treeNumber (RouterSlots router used reservable) = 7
+-- of row k, at the place that the row says
+abbrev pub fixed : ℕ → ℕ → ℕ → Facts
+fixed k a b = placed k (placeSaid (sortAt k .place)) a b
 
-unfoldable pub treePlace : TreeRefusal → ℕ
-treePlace NodeNames = 0
-treePlace (NodeLine line) = line
-treePlace SinkNode = 0
-treePlace (RouterReservations router reservations) = router
-treePlace (RouterSlots router used reservable) = router
+-- The row of each refusal, counted from 0, and the values concerned: "in 3 the column's, in 4 to 7 those compared, else none" (E1), as the
+-- condition that was broken compared them; 0 where there is none, and the row's phrase has no gap for it.
+unfoldable pub conflictFacts : Conflict → Facts
+conflictFacts (Orders so bo) = fixed 4 so bo
+conflictFacts (Routers nr h) = fixed 5 nr h
+conflictFacts (Sensors ne own) = fixed 6 ne own
+conflictFacts (SinkDepth sink h) = fixed 7 sink h
+conflictFacts (SinkBranches sink nr) = fixed 8 sink nr
+conflictFacts (FrameLength head payload) = fixed 9 head payload
+conflictFacts (Unacknowledged loss ack) = fixed 10 loss ack
+
+unfoldable pub treeFacts : TreeRefusal → Facts
+treeFacts NodeNames = fixed 16 0 0
+treeFacts (NodeLine line) = placed 17 line 0 0
+treeFacts SinkNode = fixed 18 0 0
+treeFacts (RouterReservations router reservations) = placed 19 router reservations 0
+treeFacts (RouterSlots router used reservable) = placed 20 router (used .0) (reservable .0)
+
+unfoldable pub factsOf : Refusal → Facts
+factsOf Names = fixed 0 0 0
+factsOf (Unreadable column) = placed 1 column 0 0
+factsOf (TextAfter column) = placed 2 column 0 0
+factsOf (OutOfRange column value) = placed 3 column value 0
+factsOf (AtOdds conflict) = conflictFacts conflict
+factsOf (Reservations ne nr) = fixed 11 ne nr
+factsOf (Superframes routers superframes) = fixed 12 routers superframes
+factsOf (SlotsUsed depth used reservable) = placed 13 depth (used .0) (reservable .0)
+factsOf LentTooShort = fixed 14 0 0
+factsOf InputTooLong = fixed 15 0 0
+factsOf (InTree refusal) = treeFacts refusal
 
 -- the number of a refusal
 unfoldable pub numberOf : Refusal → ℕ
-numberOf Names = 1
-numberOf (Unreadable column) = 2
-numberOf (TextAfter column) = 2
-numberOf (OutOfRange column value) = 3
-numberOf (AtOdds conflict) = 4
-numberOf (Reservations ne nr) = 5
-numberOf (Superframes routers superframes) = 6
-numberOf (SlotsUsed depth used reservable) = 7
-numberOf LentTooShort = 8
-numberOf InputTooLong = 9
-numberOf (InTree refusal) = treeNumber refusal
+numberOf r = sortAt (factsOf r .sort) .number
 
--- the place of a refusal: 0, "its column, 13 for text after" (E5: "text after the 13th value has place 14"), "its column", "as given", 0, 0, "first such depth", 0, 0
+-- the place of a refusal
 unfoldable pub placeOf : Refusal → ℕ
-placeOf Names = 0
-placeOf (Unreadable column) = column
-placeOf (TextAfter column) = column
-placeOf (OutOfRange column value) = column
-placeOf (AtOdds conflict) = conflictPlace conflict
-placeOf (Reservations ne nr) = 0
-placeOf (Superframes routers superframes) = 0
-placeOf (SlotsUsed depth used reservable) = depth
-placeOf LentTooShort = 0
-placeOf InputTooLong = 0
-placeOf (InTree refusal) = treePlace refusal
+placeOf r = factsOf r .place

@@ -1,10 +1,15 @@
 // Document 01's table of refusals ('Rows of settings'), 1 to 9, with the column LOSS (document 02, E5), and those of surveyed trees (E3):
-// every reason for which something is refused, in one place.
+// every reason for which something is refused, in one place. docs/CHANGING.md says what a new one touches.
 //
 // No public function has a `requires`: each answers every argument, as an equation with a definition of specs/ says.
 ghost use mathlib.Core.Path.{_≡_};
-ghost use Rattle.refusals.specs.Refusals.{numberOf, placeOf, conflictPlace, treeNumber, treePlace};
+ghost use Rattle.refusals.specs.Refusals.{numberOf, placeOf};
+use crate::cases::facts_of;
+use crate::table::number_at;
 use measure::Slots;
+
+pub mod table; // the table's numbers and places
+pub mod cases; // the sort, the place and the values of each refusal
 
 // Why something is refused, with the values concerned. Columns count from 1.
 pub enum Refusal {
@@ -90,122 +95,28 @@ pub enum TreeRefusal {
     },
 }
 
+// What is told of a refusal: the position of its sort in the table, its place, and the values concerned, of which the sort's phrase takes
+// none, one or both.
+pub struct Facts {
+    pub sort: usize,
+    pub place: u32,
+    pub first: u64,
+    pub second: u64,
+}
+
 impl Refusal {
     // The number that the papers give it.
     pub fn number(self) -> u32
         ensures { λ r. ⌜ r ≡ numberOf self ⌝ }
     {
-        match self {
-            Refusal::Names => 1,
-            Refusal::Unreadable { column: _ } => 2,
-            Refusal::TextAfter { column: _ } => 2,
-            Refusal::OutOfRange {
-                column: _,
-                value: _,
-            } => 3,
-            Refusal::AtOdds(_) => 4,
-            Refusal::Reservations { ne: _, nr: _ } => 5,
-            Refusal::Superframes {
-                routers: _,
-                superframes: _,
-            } => 6,
-            Refusal::SlotsUsed {
-                depth: _,
-                used: _,
-                reservable: _,
-            } => 7,
-            Refusal::LentTooShort => 8,
-            Refusal::InputTooLong => 9,
-            Refusal::InTree(refusal) => refusal.number(),
-        }
+        number_at(facts_of(self).sort)
     }
 
     // The place that they give it.
     pub fn place(self) -> u32
         ensures { λ r. ⌜ r ≡ placeOf self ⌝ }
     {
-        match self {
-            Refusal::Names => 0,
-            Refusal::Unreadable { column } => column,
-            Refusal::TextAfter { column } => column,
-            Refusal::OutOfRange { column, value: _ } => column,
-            Refusal::AtOdds(conflict) => conflict.place(),
-            Refusal::Reservations { ne: _, nr: _ } => 0,
-            Refusal::Superframes {
-                routers: _,
-                superframes: _,
-            } => 0,
-            Refusal::SlotsUsed {
-                depth,
-                used: _,
-                reservable: _,
-            } => depth,
-            Refusal::LentTooShort => 0,
-            Refusal::InputTooLong => 0,
-            Refusal::InTree(refusal) => refusal.place(),
-        }
-    }
-}
-
-impl Conflict {
-    // The column that document 01 names for it.
-    pub fn place(self) -> u32
-        ensures { λ r. ⌜ r ≡ conflictPlace self ⌝ }
-    {
-        match self {
-            Conflict::Orders { so: _, bo: _ } => 2,
-            Conflict::Routers { nr: _, h: _ } => 4,
-            Conflict::Sensors { ne: _, own: _ } => 5,
-            Conflict::SinkDepth { sink: _, h: _ } => 7,
-            Conflict::SinkBranches { sink: _, nr: _ } => 7,
-            Conflict::FrameLength {
-                head: _,
-                payload: _,
-            } => 11,
-            Conflict::Unacknowledged { loss: _, ack: _ } => 13,
-        }
-    }
-}
-
-impl TreeRefusal {
-    // Document 02's number.
-    pub fn number(self) -> u32
-        ensures { λ r. ⌜ r ≡ treeNumber self ⌝ }
-    {
-        match self {
-            TreeRefusal::NodeNames => 10,
-            TreeRefusal::NodeLine { line: _ } => 10,
-            TreeRefusal::SinkNode => 10,
-            TreeRefusal::RouterReservations {
-                router: _,
-                reservations: _,
-            } => 5,
-            TreeRefusal::RouterSlots {
-                router: _,
-                used: _,
-                reservable: _,
-            } => 7,
-        }
-    }
-
-    // Document 02's place: 0, the line or the router.
-    pub fn place(self) -> u32
-        ensures { λ r. ⌜ r ≡ treePlace self ⌝ }
-    {
-        match self {
-            TreeRefusal::NodeNames => 0,
-            TreeRefusal::NodeLine { line } => line,
-            TreeRefusal::SinkNode => 0,
-            TreeRefusal::RouterReservations {
-                router,
-                reservations: _,
-            } => router,
-            TreeRefusal::RouterSlots {
-                router,
-                used: _,
-                reservable: _,
-            } => router,
-        }
+        facts_of(self).place
     }
 }
 

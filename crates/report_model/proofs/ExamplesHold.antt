@@ -3,14 +3,14 @@ use mathlib.Core.Path.{refl}
 use Rattle.decimal_model.specs.Ascii.{ascii}
 use Rattle.decimal_model.specs.Decimal.{digitsBy, decimal}
 use Rattle.lines.specs.Text.{joined, ended}
-use Rattle.refusals.specs.Refusals.{treeNumber, treePlace, numberOf, placeOf}
+use Rattle.refusals.proofs.Computing.{tabled}
 use Rattle.plan_model.specs.Lines.{letter}
 use Rattle.report_model.specs.Text.{header, numbers, lineText, text, refusalText}
 use Rattle.report_model.specs.TreeText.{treeHeader, nodeText, treeText}
 use Rattle.report_model.specs.Examples.{counted, routed, Examples}
 
 pub examples-hold : Examples
-unfolding ascii digitsBy decimal joined ended treeNumber treePlace numberOf placeOf letter header numbers lineText text refusalText treeHeader nodeText treeText counted routed
+unfolding ascii digitsBy decimal joined ended tabled letter header numbers lineText text refusalText treeHeader nodeText treeText counted routed
 examples-hold = record {
   endNode = refl;
   upward = refl;

@@ -1,12 +1,12 @@
 -- The examples of specs/Examples, computed. Assumes nothing.
 use mathlib.Core.Path.{refl}
-use Rattle.refusals.specs.Refusals.{numberOf, placeOf, conflictPlace}
+use Rattle.refusals.proofs.Computing.{tabled}
 use Rattle.row_answer_model.specs.Examples as examples
 use Rattle.row_answer_model.specs.Examples.{Examples}
 use Rattle.row_answer_model.proofs.Computing.{answered}
 
 pub examples-hold : Examples
-unfolding answered numberOf placeOf conflictPlace examples.answered examples.asked examples.askedLossy examples.under
+unfolding answered tabled examples.answered examples.asked examples.askedLossy examples.under
 examples-hold = record {
   one = refl;
   two = refl;

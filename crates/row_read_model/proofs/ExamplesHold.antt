@@ -3,7 +3,7 @@ use mathlib.Core.Path.{refl}
 use Rattle.decimal_model.specs.Ascii.{ascii}
 use Rattle.decimal_model.specs.Number.{digits, zeroLed, shaped, readable, spelledAfter}
 use Rattle.lines.specs.Text.{same, before, pieces, fields, joined}
-use Rattle.refusals.specs.Refusals.{numberOf, placeOf}
+use Rattle.refusals.proofs.Computing.{tabled}
 use Rattle.refusals.specs.Conditions.{firstBroken}
 use Rattle.settings_model.specs.Columns.{twelve, everyColumn}
 use Rattle.row_read_model.specs.Names.{nameLine, headingOf, isOther, columnsUnder}
@@ -11,7 +11,7 @@ use Rattle.row_read_model.specs.Rows.{headed, columnsRead, valuesIn, set
 use Rattle.row_read_model.specs.Examples.{answered, under, asked, askedLossy, behind, behindLoss, Examples}
 
 pub examples-hold : Examples
-unfolding ascii digits zeroLed shaped readable spelledAfter before pieces fields joined nameLine same headingOf isOther columnsUnder numberOf placeOf firstBroken twelve everyColumn headed columnsRead valuesIn settingsOf conditions rowUnder namedRow answered under asked askedLossy behind behindLoss
+unfolding ascii digits zeroLed shaped readable spelledAfter before pieces fields joined nameLine same headingOf isOther columnsUnder tabled firstBroken twelve everyColumn headed columnsRead valuesIn settingsOf conditions rowUnder namedRow answered under asked askedLossy behind behindLoss
 examples-hold = record {
   names = refl;
   lossyNames = refl;

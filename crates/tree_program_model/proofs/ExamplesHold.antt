@@ -3,7 +3,7 @@ use mathlib.Core.Path.{refl}
 use Rattle.decimal_model.specs.Decimal.{digitsBy, decimal}
 use Rattle.decimal_model.specs.Number.{numberIn}
 use Rattle.lines.specs.Text.{joined, ended}
-use Rattle.refusals.specs.Refusals.{conflictPlace, treeNumber, treePlace, numberOf, placeOf}
+use Rattle.refusals.proofs.Computing.{tabled}
 use Rattle.plan_model.specs.Lines.{letter}
 use Rattle.tree_read_model.proofs.Computing.{lists}
 use Rattle.report_model.specs.Text.{numbers, refusalText}
@@ -14,7 +14,7 @@ use Rattle.tree_program_model.specs.Examples.{argumentAt, argumentsIn, b
 
 -- to unfold `outputs` is to unfold all that an output is computed with
 outputs : Type 0
-unfolding lists digitsBy decimal numberIn joined ended conflictPlace treeNumber treePlace numberOf placeOf letter numbers refusalText treeHeader nodeText treeText tooLong valueOf isUnreadable lossIn argumentsRead radioOf sinkOf argumentConditions callOutcome printed treeOutput argumentAt argumentsIn
+unfolding lists digitsBy decimal numberIn joined ended tabled letter numbers refusalText treeHeader nodeText treeText tooLong valueOf isUnreadable lossIn argumentsRead radioOf sinkOf argumentConditions callOutcome printed treeOutput argumentAt argumentsIn
 outputs = Unit
 
 pub examples-hold : ExamplesHold

@@ -10,7 +10,7 @@ use Rattle.decimal_model.specs.Decimal.{digitsBy, decimal}
 use Rattle.lines.specs.Text.{joined, ended}
 use Rattle.refusals.specs.declared.Refusal.{Refusal}
 use Rattle.refusals.specs.declared.Refusal.the-variants.{InputTooLong}
-use Rattle.refusals.specs.Refusals.{numberOf, placeOf}
+use Rattle.refusals.proofs.Computing.{tabled}
 use Rattle.refusals.proofs.Unbroken.{unbroken-append, unbroken-left, unbroken-right}
 use Rattle.plan_model.specs.declared.NodeLine.{NodeLine}
 use Rattle.tree_model.specs.Lines.{lines}
@@ -31,7 +31,7 @@ use Rattle.tree_program_model.specs.Laws.{NotGivenIsZero, LongInputs, Te
 use Rattle.tree_program_model.proofs.Outputs.{too-long, ten-broken, call-planned, output-refused}
 
 pub long-inputs : LongInputs
-unfolding refusalText numberOf placeOf digitsBy decimal joined ended ascii
+unfolding refusalText tabled digitsBy decimal joined ended ascii
 long-inputs a input h = sym (output-refused a input InputTooLong (sym (too-long a input h)))
 
 pub ten-before-two : TenBeforeTwo

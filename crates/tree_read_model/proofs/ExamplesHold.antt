@@ -2,7 +2,7 @@
 use mathlib.Core.Path.{refl}
 use Rattle.decimal_model.specs.Decimal.{digitsBy, decimal}
 use Rattle.lines.specs.Text.{joined, ended}
-use Rattle.refusals.specs.Refusals.{conflictPlace, treeNumber, treePlace, numberOf, placeOf}
+use Rattle.refusals.proofs.Computing.{tabled}
 use Rattle.plan_model.specs.Lines.{columns}
 use Rattle.tree_model.specs.Examples.{nodeColumns, common}
 use Rattle.tree_read_model.specs.Examples.{answered, listing, asked, bytes, second, Names, leafLine, leafLines, wide, NodeLines, balancedList, besideIt, brokenList, eightLeaves, Order, columnsOf, Plans}
@@ -10,7 +10,7 @@ use Rattle.tree_read_model.proofs.Computing.{lists}
 
 -- to unfold `tables` is to unfold all that the examples are computed with
 tables : Type 0
-unfolding lists digitsBy decimal joined ended conflictPlace treeNumber treePlace numberOf placeOf columns nodeColumns common answered listing asked bytes second leafLine leafLines wide balancedList besideIt brokenList eightLeaves columnsOf
+unfolding lists digitsBy decimal joined ended tabled columns nodeColumns common answered listing asked bytes second leafLine leafLines wide balancedList besideIt brokenList eightLeaves columnsOf
 tables = Unit
 
 pub names-hold : Names
