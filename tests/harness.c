@@ -76,9 +76,6 @@ static const struct {
 } ranges[COLUMNS] = {{0, 14},  {0, 14},   {0, 12},  {0, 7},   {0, 7}, {0, 1}, {0, 12},
                      {1, 255}, {1, 4095}, {5, 126}, {1, 122}, {0, 1}, {0, 7}};
 
-static const char *const columns[COLUMNS] = {"BO",    "SO",   "H",    "NR",   "NE",  "OWN", "SINK",
-                                             "BURST", "RATE", "HEAD", "DATA", "ACK", "LOSS"};
-
 static const planner_answer too_short = {.number = 8, .place = 0, .length = 0};
 
 static uint64_t seed;
