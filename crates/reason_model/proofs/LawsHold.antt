@@ -13,19 +13,19 @@ use Rattle.refusals.specs.declared.TreeRefusal.the-variants.{NodeNames, NodeLin
 use Rattle.refusals.specs.declared.Conflict.the-variants.{Orders, Routers, Sensors, SinkDepth, SinkBranches, FrameLength, Unacknowledged}
 use Rattle.refusals.specs.Table.{Always, Sort, sort, table, sortAt, placeSaid}
 use Rattle.refusals.specs.Refusals.{conflictFacts, treeFacts, factsOf, numberOf, placeOf}
-use Rattle.refusals.proofs.Sorts.{placeFor, sort-inside, place-kept}
+use Rattle.refusals.proofs.Sorts.{placeFor, sort-inside, place-kept, every}
 use Rattle.measure.specs.Measures.{slots}
 use Rattle.reason_model.specs.declared.Match.{Match}
 use Rattle.reason_model.specs.declared.Match.the-variants.{At, Nowhere}
 use Rattle.reason_model.specs.declared.ReasonRead.the-variants.{Reason}
-use Rattle.reason_model.specs.Reasons.{phraseAt, Part, partOf, partText, taken, filled, reason}
+use Rattle.reason_model.specs.Reasons.{phraseAt, partOf, partText, taken, filled, reason}
 use Rattle.reason_model.specs.Reading.{matched, readAs, readFrom, readReason}
 use Rattle.reason_model.specs.Laws.{ReadBack, ReasonOf, OnlyReasons, PrintableReasons}
 use Rattle.reason_model.proofs.Gaps.{sound}
 use Rattle.reason_model.proofs.PhrasesApart.{placed, apart, filled-matched, apart-matched}
-use Rattle.reason_model.proofs.PhraseFilled.{once, agrees, place-read, Fills, matched-fills}
+use Rattle.reason_model.proofs.PhraseFilled.{once, agrees, place-read, matched-fills}
 use Rattle.reason_model.proofs.Printing.{filled-printable}
-use Rattle.reason_model.proofs.Sorts.{form, allApart, apart-before, every, gaps-end, placesFit, places-fit, place-once, place-agrees, phrase-prints}
+use Rattle.reason_model.proofs.Sorts.{form, allApart, apart-before, gaps-end, placesFit, places-fit, place-once, place-agrees, phrase-prints}
 
 -- ---- number and place can be had again
 

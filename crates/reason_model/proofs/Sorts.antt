@@ -2,15 +2,15 @@
 use mathlib.Core.Path.{_≡_, refl}
 use mathlib.Core.Bool.{Bool, true, _&&_, and-eq-true-iff}
 use mathlib.Core.List.{List, [], _∷_, map}
-use Prim.Native.Nat.{ℕ, zero, suc, _+_, _≤_, _<_}
-use native.Mathlib.Omega.{arith}
+use Prim.Native.Nat.{ℕ, suc, _+_, _≤_, _<_}
 use native.Mathlib.Numerals.{add-one}
 use lib.Dec.{leb}
-use lib.ListN.{length, getD, take, drop, drop-of-length-le}
+use lib.ListN.{length, take, drop, drop-of-length-le}
 use lib.Seq.{drop-cons}
 use borrow.Author.Tests.{leb-true}
 use Rattle.decimal_model.specs.Ascii.{ascii}
 use Rattle.refusals.specs.Table.{Always, Sort, sort, table, sortAt, placeSaid}
+use Rattle.refusals.proofs.Sorts.{every, every-at}
 use Rattle.reason_model.specs.declared.Match.the-variants.{At, Nowhere}
 use Rattle.reason_model.specs.declared.ReasonRead.the-variants.{Reason, NoReason}
 use Rattle.reason_model.specs.Reasons.{phraseAt, Part, partOf}
@@ -37,16 +37,6 @@ unfolding allBelow ascii table sortAt partOf code isByte apart allApart
 apart-before k h = each-below (λ j. allApart (take j table) (form (sortAt j))) (length table) refl k h
 
 -- ---- what is computed of each row
-
-unfoldable pub every : (Sort → Bool) → List Sort → Bool
-every f [] = true
-every f (s ∷ ss) = f s && every f ss
-
-every-at : (f : Sort → Bool) (l : List Sort) (k : ℕ) (d : Sort) → every f l ≡ true → k < length l → f (getD l k d) ≡ true
-unfolding every
-every-at f [] k d e h = absurd (omega arith)
-every-at f (s ∷ ss) zero d e h = and-eq-true-iff (f s) (every f ss) .0 e .0
-every-at f (s ∷ ss) (suc k) d e h = every-at f ss k d (and-eq-true-iff (f s) (every f ss) .0 e .1) (omega arith)
 
 -- the place stands in its phrase at most once, and exactly where each refusal has its own
 unfoldable pub placesFit : Sort → Bool

@@ -1,6 +1,6 @@
 -- The phrases and the columns' names, had again from constants in which they stand one behind another. Assumes nothing.
-use mathlib.Core.Path.{_≡_, refl, sym, ap, _∙_}
-use mathlib.Core.List.{List, [], _∷_, map}
+use mathlib.Core.Path.{_≡_, sym, ap, _∙_}
+use mathlib.Core.List.{List, [], _∷_}
 use Prim.Native.Nat.{ℕ, suc, _+_, _-_, _≤_, _<_}
 use native.Mathlib.Omega.{arith}
 use native.Mathlib.Numerals.{add-one}
@@ -11,7 +11,7 @@ use Rattle.refusals.specs.Table.{Always, Sort, sort, table, sortAt}
 use Rattle.settings_model.specs.Columns.{Column, column, twelve, everyColumn, columnAt}
 use Rattle.reason_model.specs.Reasons.{columnName, phraseAt}
 use Rattle.reason_model.specs.Inner.{joined, phrases, names}
-use Rattle.reason_model.proofs.Texts.{start, Between, between}
+use Rattle.reason_model.proofs.Texts.{start, between}
 use Rattle.reason_model.proofs.ColumnNames.{name-at}
 
 -- a text of a constant: its start is not behind its end, its end is inside, and between them it stands

@@ -74,19 +74,19 @@ module _ (r : Refusal) where
   unfolding found wanted
   place-kept = ap (λ (k : Known). k .place) (known r)
 
--- ---- every refusal has a number above 0
+-- ---- what holds of every row holds of a row
 
--- in these rows
-unfoldable numbers : List Sort → Bool
-numbers [] = true
-numbers (s ∷ ss) = ltb 0 (s .number) && numbers ss
+unfoldable pub every : (Sort → Bool) → List Sort → Bool
+every f [] = true
+every f (s ∷ ss) = f s && every f ss
 
-row-numbered : (l : List Sort) (k : ℕ) (d : Sort) → numbers l ≡ true → k < length l → 1 ≤ getD l k d .number
-unfolding numbers
-row-numbered [] k d e h = absurd (omega arith)
-row-numbered (s ∷ ss) zero d e h = ltb-true 0 (s .number) (and-eq-true-iff (ltb 0 (s .number)) (numbers ss) .0 e .0)
-row-numbered (s ∷ ss) (suc k) d e h = row-numbered ss k d (and-eq-true-iff (ltb 0 (s .number)) (numbers ss) .0 e .1) (omega arith)
+pub every-at : (f : Sort → Bool) (l : List Sort) (k : ℕ) (d : Sort) → every f l ≡ true → k < length l → f (getD l k d) ≡ true
+unfolding every
+every-at f [] k d e h = absurd (omega arith)
+every-at f (s ∷ ss) zero d e h = and-eq-true-iff (f s) (every f ss) .0 e .0
+every-at f (s ∷ ss) (suc k) d e h = every-at f ss k d (and-eq-true-iff (f s) (every f ss) .0 e .1) (omega arith)
 
+-- so every refusal has a number above 0
 pub numbered : (r : Refusal) → 1 ≤ numberOf r
-unfolding numberOf sortAt table numbers
-numbered r = row-numbered table (factsOf r .sort) (sort 0 (Always 0) "") refl (sort-inside r)
+unfolding numberOf sortAt table every
+numbered r = ltb-true 0 (numberOf r) (every-at (λ s. ltb 0 (s .number)) table (factsOf r .sort) (sort 0 (Always 0) "") refl (sort-inside r))

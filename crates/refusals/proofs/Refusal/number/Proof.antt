@@ -1,5 +1,4 @@
 -- `refusals::Refusal::number` meets its contract. Assumes nothing.
-use Rattle.refusals.specs.Table.{sortAt}
 use Rattle.refusals.specs.Refusals.{numberOf}
 use borrow.Author.Needs.{needs}
 use Rattle.refusals.proofs.Refusal.number.Statement.{statement}
