@@ -2,6 +2,8 @@
 //
 // No public function has a `requires`: what would lie behind the lent memory's end is left out. Each answers every argument, as
 // equations say.
+#![tactic(auto)]
+
 ghost use Rattle.std.specs.Prelude.{◌≡◌, ◌+◌, length, set};
 ghost use Rattle.std.proofs.lemmas.List.Edits.{sets};
 

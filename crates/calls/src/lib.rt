@@ -2,6 +2,8 @@
 //
 // No public function has a `requires`: each answers every argument, as equations with definitions of calls_model say. A lent buffer that is
 // too short is number 8, and keeps every byte.
+#![tactic(auto)]
+
 ghost use Rattle.std.specs.Prelude.{◌≡◌, ◌≤◌, length};
 ghost use Rattle.std.proofs.lemmas.List.Edits.{sets};
 ghost use Rattle.reason_model.specs.Reading.{read_reason};

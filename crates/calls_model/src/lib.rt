@@ -1,5 +1,6 @@
 // What calls from bytes answer and leave in a lent buffer, whatever they plan, and those about no row and no tree: definitions, laws and
 // examples, and no function. Crate calls answers them; row_calls_model and tree_calls_model say what is planned.
+#![tactic(auto)]
 
 // What a call answers: 0, 0 and the text's length where the row is planned; else number and place of the refusal, and 0.
 #[repr(C)]

@@ -1,6 +1,8 @@
 // Decimal numbers in ASCII, read and written.
 //
 // No public function has a `requires`: each answers every argument, as equations with definitions of decimal_model say.
+#![tactic(auto)]
+
 ghost use Rattle.std.specs.Prelude.{◌≡◌, ◌+◌, ◌≤◌, ◌<◌, length, set};
 ghost use Rattle.std.proofs.lemmas.List.Edits.{sets};
 ghost use Rattle.decimal_model.specs.Number.{digit, shaped, number_in};

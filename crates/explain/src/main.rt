@@ -1,5 +1,7 @@
 // The program: rows of settings from standard input, and for each one line of English to standard output, that it is planned or why it
 // is refused (document 02, E1). What is printed is decided in `row_program`; here it is read and written alone.
+#![tactic(auto)]
+
 use libc::{STDIN_FILENO, STDOUT_FILENO};
 use report::LONGEST;
 use row_program::{begin, next_piece};

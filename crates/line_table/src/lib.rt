@@ -4,6 +4,8 @@
 // No public function has a `requires`: each takes a table of any length and any position, as equations with definitions of line_table_model
 // say. Numbers are put as far as there is room; behind the end every number is 0. Inner functions presume what is tested before them;
 // their `requires` say what.
+#![tactic(auto)]
+
 ghost use Rattle.std.specs.Prelude.{◌≡◌, [], ◌∷◌, ◌+◌, ◌<◌, ◌^◌, min, get_or};
 ghost use Rattle.std.proofs.lemmas.List.Edits.{sets};
 ghost use Rattle.line_table_model.specs.Rows.{code_of, kind_from, numbers_of, line_in};

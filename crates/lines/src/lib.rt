@@ -2,6 +2,8 @@
 //
 // No public function has a `requires`: each answers every argument, as an equation with a definition of specs/ says. Nothing is
 // written anywhere.
+#![tactic(auto)]
+
 ghost use Rattle.std.specs.Prelude.{◌≡◌};
 ghost use Rattle.lines.specs.Text.{line_at, part_of};
 

@@ -3,6 +3,8 @@
 //
 // No public function has a `requires`: each answers every argument, as an equation with a definition of specs/ says. Where a number
 // passes 64 bits, the contract names the answer.
+#![tactic(auto)]
+
 ghost use Rattle.std.specs.Prelude.{◌≡◌};
 ghost use Rattle.links.specs.Link.{plus, times, load_up_to_64, after_link};
 ghost use Rattle.links.specs.Answers.{reservation_answered, figures_answered};

@@ -2,6 +2,8 @@
 // has a name below. A sum or product that passes 64 bits is answered by the largest number of 64 bits.
 //
 // No public function has a `requires`: each answers every argument, as an equation with a definition of specs/ says.
+#![tactic(auto)]
+
 ghost use Rattle.std.specs.Prelude.{◌≡◌, ◌+◌, ◌*◌};
 ghost use Rattle.measure.specs.Measures.{up_to_64, burst, arrivals, whole_frames, service_time};
 

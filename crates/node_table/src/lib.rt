@@ -2,6 +2,8 @@
 //
 // No public function has a `requires`: each takes a table of any length and any index, as equations with definitions of node_table_model
 // say. Numbers are put as far as there is room; behind the end every number is 0.
+#![tactic(auto)]
+
 ghost use Rattle.std.specs.Prelude.{◌≡◌, ◌*◌, min};
 ghost use Rattle.std.proofs.lemmas.List.Edits.{sets};
 ghost use Rattle.node_table_model.specs.NodeRows.{node_numbers, node_in};

@@ -1,5 +1,7 @@
 // The program: rows of settings from standard input, plans and refusals to standard output (document 01, 'The printed plan'). What is
 // printed is decided in `row_program`; here it is read and written alone.
+#![tactic(auto)]
+
 use libc::{STDIN_FILENO, STDOUT_FILENO};
 use report::LONGEST;
 use row_program::{begin, next_piece};

@@ -1,6 +1,8 @@
 // What rows and surveyed trees share on their way to a plan: the times that are set on every radio, and the plan of a refusal.
 //
 // No public function has a `requires`: each answers every argument, as an equation with a definition of plan_model says.
+#![tactic(auto)]
+
 ghost use Rattle.std.specs.Prelude.{◌≡◌};
 ghost use Rattle.plan_model.specs.Plans.{refused};
 ghost use Rattle.plan_model.specs.Times.{timing_answered};

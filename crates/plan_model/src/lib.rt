@@ -1,5 +1,7 @@
 // The words of every plan, a row's or a surveyed tree's: KIND, a line and its figures, what planning answers, and the times that settings
 // set. Definitions and laws, and no function: crate plan_common answers them. Both families are built on it, and neither on the other.
+#![tactic(auto)]
+
 use links::Figures;
 use measure::Symbols;
 use refusals::Verdict;

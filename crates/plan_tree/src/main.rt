@@ -1,5 +1,7 @@
 // The program: `plan_tree BO SO HEAD DATA ACK SINK [LOSS]`, a node list from standard input, its plan or a refusal to standard output
 // (document 02, E3 and E5). What is printed is decided in `tree_program`; here it is read and written alone.
+#![tactic(auto)]
+
 use decimal::read_number;
 use decimal_model::Number;
 use libc::{STDIN_FILENO, STDOUT_FILENO};

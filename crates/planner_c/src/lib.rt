@@ -3,6 +3,8 @@
 //
 // No entry has a `requires`: each answers every argument, as equations with definitions of calls_model, row_calls_model and tree_calls_model
 // say. What C must see to (pointers that are valid for their lengths, a lent buffer apart from the inputs) is in the header.
+#![tactic(auto)]
+
 ghost use Rattle.std.specs.Prelude.{◌≡◌, ◌≤◌};
 ghost use Rattle.calls_model.specs.Calls.{left};
 ghost use Rattle.row_calls_model.specs.Entries.{plan_row, check_row};

@@ -2,6 +2,8 @@
 //
 // No public function has a `requires`: each answers every argument, as equations with definitions of reason_model say. Lines are put into
 // lent memory as far as there is room, at its front and without LF.
+#![tactic(auto)]
+
 ghost use Rattle.std.specs.Prelude.{◌≡◌, ◌≤◌, length};
 ghost use Rattle.std.proofs.lemmas.List.Edits.{sets};
 ghost use Rattle.reason_model.specs.Reasons.{reason, verdict_line};

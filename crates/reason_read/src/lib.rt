@@ -1,6 +1,8 @@
 // Number and place of a refusal, had again from its line in English (document 02, E1).
 //
 // The public function has no `requires`: it answers every line, as an equation with a definition of reason_model says.
+#![tactic(auto)]
+
 ghost use Rattle.std.specs.Prelude.{◌≡◌};
 ghost use Rattle.reason_model.specs.Reading.{read_reason};
 

@@ -2,6 +2,8 @@
 //
 // No public function has a `requires`: each answers every argument, as equations with definitions of reason_model say. Texts are put into
 // lent memory as far as there is room.
+#![tactic(auto)]
+
 mod texts; // one of several texts in a constant
 pub mod columns; // columns by their names
 pub mod phrases; // the phrase of each sort

@@ -2,6 +2,8 @@
 // every reason for which something is refused, in one place. docs/CHANGING.md says what a new one touches.
 //
 // No public function has a `requires`: each answers every argument, as an equation with a definition of specs/ says.
+#![tactic(auto)]
+
 ghost use Rattle.std.specs.Prelude.{◌≡◌};
 ghost use Rattle.refusals.specs.Refusals.{number_of, place_of};
 

@@ -3,6 +3,8 @@
 // No public function has a `requires`. Each puts its text into lent memory as far as there is room, leaves all other bytes as they
 // were, and answers the text's whole length, as equations with definitions of report_model say. A plan is put piece by piece: its header
 // line at the front, and each line behind the text before it.
+#![tactic(auto)]
+
 ghost use Rattle.std.specs.Prelude.{◌≡◌, [], ◌∷◌, ◌++◌, ◌≤◌, min, length};
 ghost use Rattle.std.proofs.lemmas.List.Edits.{sets};
 ghost use Rattle.report_model.specs.Text.{header, line_text, refusal_text};

@@ -1,6 +1,8 @@
 // How long the lines of a printed plan are (document 01, 'The printed plan'; document 02, E3): nothing is put.
 //
 // No public function has a `requires`.
+#![tactic(auto)]
+
 ghost use Rattle.std.specs.Prelude.{◌≡◌, [], ◌∷◌, ◌++◌, ◌≤◌, length};
 ghost use Rattle.decimal_model.specs.Decimal.{decimal};
 ghost use Rattle.report_model.specs.Text.{line_text};

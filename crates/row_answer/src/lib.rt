@@ -3,6 +3,8 @@
 //
 // No public function has a `requires`: each answers every argument, as equations with definitions of row_answer_model say. A refused row
 // leaves every byte and every number as it was.
+#![tactic(auto)]
+
 ghost use Rattle.std.specs.Prelude.{◌≡◌, cond, ◌≤◌, leb, length};
 ghost use Rattle.std.proofs.lemmas.List.Edits.{sets};
 ghost use Rattle.plan_model.specs.Plans.{answer, written};

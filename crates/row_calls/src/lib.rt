@@ -2,6 +2,8 @@
 //
 // No public function has a `requires`: each answers every argument, as equations with definitions of row_calls_model say. A refused row, also
 // one whose text is longer than the buffer (number 8), leaves every byte as it was.
+#![tactic(auto)]
+
 ghost use Rattle.std.specs.Prelude.{◌≡◌, ◌≤◌};
 ghost use Rattle.calls_model.specs.Calls.{left};
 ghost use Rattle.row_calls_model.specs.Entries.{plan_row, check_row, explain_row};

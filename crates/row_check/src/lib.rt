@@ -2,6 +2,8 @@
 // superframes an interval.
 //
 // The public function has no `requires`: settings may come that nobody checked. Inner functions presume numbers 3 and 4, which it asks first.
+#![tactic(auto)]
+
 ghost use Rattle.std.specs.Prelude.{◌≡◌, ◌≤◌, ◌^◌, suc};
 ghost use Rattle.network.specs.Counting.{total};
 ghost use Rattle.refusals.specs.declared.Verdict.TheVariants.{Kept, Broken};

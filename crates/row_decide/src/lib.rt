@@ -3,6 +3,8 @@
 //
 // The public function has no `requires`: settings may come that nobody checked, and a table of any length. It answers all of them, as
 // equations with definitions of plan_model say. Inner functions presume what the checks before them have found; their `requires` say what.
+#![tactic(auto)]
+
 ghost use Rattle.std.specs.Prelude.{◌≡◌, ◌≤◌, length};
 ghost use Rattle.std.proofs.lemmas.List.Edits.{sets};
 ghost use Rattle.refusals.specs.declared.Verdict.TheVariants.{Kept};

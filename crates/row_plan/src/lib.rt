@@ -2,6 +2,8 @@
 // once, and its text is put at most once.
 //
 // No public function has a `requires`: settings may come that nobody checked, and lent memory of any length.
+#![tactic(auto)]
+
 ghost use Rattle.std.specs.Prelude.{◌≡◌, cond, ◌≤◌, min, leb, length};
 ghost use Rattle.std.proofs.lemmas.List.Edits.{sets};
 ghost use Rattle.refusals.specs.declared.Verdict.TheVariants.{Kept};

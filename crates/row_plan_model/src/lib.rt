@@ -1,5 +1,7 @@
 // What the functions of rows presume of one another: definitions and laws, and no function. Crates row_check, row_loads,
 // row_slots and row_decide answer them.
+#![tactic(auto)]
+
 use links::{Load, Reservation};
 use measure::Symbols;
 use refusals::Verdict;

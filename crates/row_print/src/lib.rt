@@ -1,6 +1,8 @@
 // The printed plan of a row from the numbers of its table, whatever the table holds (document 01, 'The printed plan').
 //
 // No public function has a `requires`: each takes a table of any length and any numbers.
+#![tactic(auto)]
+
 ghost use Rattle.std.specs.Prelude.{◌≡◌, ◌≤◌, min, length};
 ghost use Rattle.std.proofs.lemmas.List.Edits.{sets};
 ghost use Rattle.report_model.specs.Text.{text};

@@ -2,6 +2,8 @@
 // that a program can write each before the next is made.
 //
 // No public function has a `requires`: each answers every argument, as equations with definitions of row_program_model say.
+#![tactic(auto)]
+
 ghost use Rattle.std.specs.Prelude.{◌≡◌, ◌≤◌, length, [], ◌∷◌, ◌++◌};
 ghost use Rattle.std.proofs.lemmas.List.Edits.{sets};
 ghost use Rattle.lines.specs.Text.{line_at, ended};

@@ -1,5 +1,7 @@
 // What is printed for a whole input, name line and rows (document 01, 'The printed plan'; document 02, E1), and the steps by which it is
 // printed piece by piece. Definitions, laws and examples, P1 to P10 among them, and no function: crate row_program answers them.
+#![tactic(auto)]
+
 use row_read_model::Heading;
 
 // What is printed for a row: its plan or an R line, or one line of English.

@@ -3,6 +3,8 @@
 //
 // No public function has a `requires`: each answers every argument, as an equation with a definition of row_read_model says. Nothing is
 // written anywhere.
+#![tactic(auto)]
+
 ghost use Rattle.std.specs.Prelude.{◌≡◌};
 ghost use Rattle.row_read_model.specs.Names.{heading_of, is_other};
 ghost use Rattle.row_read_model.specs.Rows.{settings_of, row_under, named_row};

@@ -1,5 +1,7 @@
 // Rows of settings (document 01, 'Rows of settings'; document 02, E5): the line of names, the values of a row, and the conditions of numbers 1 and 2.
 // Definitions, laws and examples, and no function: crate row_read answers them.
+#![tactic(auto)]
+
 use refusals::Refusal;
 use settings_model::Settings;
 

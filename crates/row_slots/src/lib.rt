@@ -2,6 +2,8 @@
 //
 // The public function has no `requires`: settings may come that nobody checked. It answers all of them, as equations with definitions of
 // row_plan_model say. Inner functions presume what the checks before them have found; their `requires` say what.
+#![tactic(auto)]
+
 ghost use Rattle.std.specs.Prelude.{◌≡◌};
 ghost use Rattle.refusals.specs.declared.Verdict.TheVariants.{Kept, Broken};
 ghost use Rattle.refusals.specs.Conditions.{first_broken};

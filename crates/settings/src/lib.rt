@@ -3,6 +3,8 @@
 //
 // No public function has a `requires`: each answers every argument, as an equation with a definition of settings_model says. Nothing is
 // written anywhere.
+#![tactic(auto)]
+
 ghost use Rattle.std.specs.Prelude.{◌≡◌};
 ghost use Rattle.refusals.specs.declared.Verdict.TheVariants.{Kept, Broken};
 ghost use Rattle.refusals.specs.Conditions.{first_broken};

@@ -1,6 +1,7 @@
 // Settings (document 01, 'Rows of settings'; LOSS: document 02, E5): the thirteen values of a row, the six of them that come beside a node
 // list, their columns' ranges, and the conditions of numbers 3 and 4 on both. Definitions and laws, and no function: crate settings answers
 // them. Nothing here knows how settings are written.
+#![tactic(auto)]
 
 // The values of a row, by its columns: BO SO H NR NE OWN SINK BURST RATE HEAD DATA ACK LOSS.
 #[derive(Drop)]

@@ -2,6 +2,8 @@
 // can wait for it (document 01, 'Time on the air').
 //
 // No public function has a `requires`: each answers every argument, as an equation with a definition of superframe_model says.
+#![tactic(auto)]
+
 ghost use Rattle.std.specs.Prelude.{◌≡◌, ◌*◌, ◌<◌, ◌^◌};
 ghost use Rattle.measure.specs.Measures.{up_to_64, within, largest, frames, slots};
 ghost use Rattle.superframe_model.specs.Reservation.{frames_in, rate, slots_for, Smallest, latency};

@@ -1,5 +1,7 @@
 // Writes the table of exchange times (document 02, E4), to be held against the radio maker's print line by line: M, X and X acknowledged, for
 // each M from 6 to 127. The file `stdout` beside src/ has what document 01's formula gives, worked out apart from this code.
+#![tactic(auto)]
+
 ghost use Rattle.std.specs.Prelude.{◌<◌};
 
 use libc::STDOUT_FILENO;

@@ -1,5 +1,7 @@
 // Runs the compiled functions of row_read, and of settings behind them, on texts at the edges of 'Rows of settings', with LOSS and without, and writes what they answer. The file `stdout`
 // beside src/ has what document 01 asks, worked out by another implementation; the check compares the two.
+#![tactic(auto)]
+
 use libc::{STDIN_FILENO, STDOUT_FILENO};
 use lines::{Cursor, Line, next_line, part};
 use refusals::{Refusal, Verdict};

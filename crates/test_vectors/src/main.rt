@@ -1,5 +1,7 @@
 // Runs the compiled functions of superframe and writes what they answer, one line a case. The file `stdout` beside src/ has what
 // document 01 and IEEE 802.15.4-2006 state, worked out apart from this code; the check compares the two.
+#![tactic(auto)]
+
 use libc::STDOUT_FILENO;
 use measure::Rate;
 use superframe::exchange::exchange_time;

@@ -3,6 +3,8 @@
 //
 // No public function has a `requires`: each answers every argument, as equations with definitions of tree_calls_model say. A refused tree, also
 // one whose text is longer than the buffer (number 8), leaves every byte as it was.
+#![tactic(auto)]
+
 ghost use Rattle.std.specs.Prelude.{◌≡◌, ◌≤◌, length};
 ghost use Rattle.std.proofs.lemmas.List.Edits.{sets};
 ghost use Rattle.settings_model.specs.Checks.{radio};

@@ -2,6 +2,8 @@
 // 256 numbers: entry v of each is node v's parent, first child and next sibling, 0 where there is none.
 //
 // No public function has a `requires`.
+#![tactic(auto)]
+
 ghost use Rattle.std.specs.Prelude.{◌≡◌, ℕ, ◌≤◌, length, get_or};
 ghost use Rattle.tree_plan_model.specs.Children.{Linked, router_in};
 

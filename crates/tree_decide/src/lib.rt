@@ -3,6 +3,8 @@
 //
 // No public function has a `requires`: each answers every argument. Inner functions presume what the checks before them have found; their
 // `requires` say what.
+#![tactic(auto)]
+
 ghost use Rattle.std.specs.Prelude.{◌≡◌, ◌≤◌};
 ghost use Rattle.std.proofs.lemmas.List.Edits.{sets};
 ghost use Rattle.refusals.specs.declared.Verdict.TheVariants.{Kept};

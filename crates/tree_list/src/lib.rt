@@ -1,6 +1,8 @@
 // Node lists (document 02, E3): the nodes of a text, and number 10, "before all others".
 //
 // No public function has a `requires`: each answers every text. Inner functions presume what `read_list` meets; their `requires` say what.
+#![tactic(auto)]
+
 ghost use Rattle.std.specs.Prelude.{◌≡◌};
 ghost use Rattle.refusals.specs.declared.Verdict.TheVariants.{Kept, Broken};
 ghost use Rattle.refusals.specs.Conditions.{first_broken};

@@ -2,6 +2,8 @@
 // stand in a table of notes, of three parts of 256 numbers: rates, bursts and neighbours.
 //
 // No public function has a `requires`: a number from 256 on is no node's, and has no notes.
+#![tactic(auto)]
+
 ghost use Rattle.std.specs.Prelude.{◌≡◌, cond, ◌<◌, ltb, length, set};
 ghost use Rattle.tree_plan_model.specs.Inner.{load_noted, towards_noted, note_set};
 

@@ -2,6 +2,8 @@
 // refusal of numbers 10 and 3 to 7. A tree is decided once, and its text is put at most once.
 //
 // No public function has a `requires`: each answers every argument.
+#![tactic(auto)]
+
 ghost use Rattle.std.specs.Prelude.{◌≡◌, cond, ◌≤◌, min, leb, length};
 ghost use Rattle.std.proofs.lemmas.List.Edits.{sets};
 ghost use Rattle.refusals.specs.declared.Verdict.TheVariants.{Kept};

@@ -1,5 +1,7 @@
 // What the stages of planning a surveyed tree answer and presume of one another, from a node list to the numbers of its plan: definitions
 // and laws, and no function. Crates tree_list, tree_children, tree_loads, tree_slots, tree_ways and tree_decide answer them.
+#![tactic(auto)]
+
 use refusals::Verdict;
 
 // How far node lines were read: whether they keep number 10's rules, and how many nodes they have.

@@ -1,4 +1,6 @@
 // What program `plan_tree` prints for its arguments and its input (document 02, E3 and E5): the plan's text, or an `R` line.
+#![tactic(auto)]
+
 ghost use Rattle.std.specs.Prelude.{◌≡◌, ◌≤◌, length};
 ghost use Rattle.std.proofs.lemmas.List.Edits.{sets};
 ghost use Rattle.refusals.specs.declared.Verdict.TheVariants.{Kept, Broken};

@@ -2,6 +2,8 @@
 //
 // No public function has a `requires`: each answers every argument, as an equation with a definition of tree_read_model says. Nothing is written
 // anywhere.
+#![tactic(auto)]
+
 ghost use Rattle.std.specs.Prelude.{◌≡◌};
 ghost use Rattle.tree_read_model.specs.Entries.{is_name_line};
 

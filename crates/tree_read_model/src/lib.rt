@@ -1,5 +1,6 @@
 // A node list (document 02, E3): the line of names, the four values of a node's line, and the conditions of number 10. Definitions, laws
 // and examples, and no function: crate tree_read answers them line by line, and tree_plan as a whole.
+#![tactic(auto)]
 
 // The four values of a node's line.
 #[derive(Drop)]

@@ -2,6 +2,8 @@
 //
 // No public function has a `requires`: each answers every argument. Inner functions presume what the checks before them have found; their
 // `requires` say what.
+#![tactic(auto)]
+
 ghost use Rattle.std.specs.Prelude.{◌≡◌, ◌≤◌, ◌-◌, length};
 ghost use Rattle.refusals.specs.declared.Verdict.TheVariants.{Kept, Broken};
 ghost use Rattle.refusals.specs.Conditions.{first_broken};
