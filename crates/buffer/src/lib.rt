@@ -7,7 +7,7 @@
 ghost use Rattle.std.specs.Prelude.{◌≡◌, ◌+◌, length, set};
 ghost use Rattle.std.proofs.lemmas.List.Edits.{sets};
 
-use bytes::copy;
+use octets::copy;
 
 // Puts a byte k places behind a position, where there is room.
 pub fn put_byte(out: &mut [u8], at: usize, k: usize, b: u8)

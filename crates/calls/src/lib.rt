@@ -51,7 +51,7 @@ pub fn leave(number: u32, place: u32, line: &[u8], out: &mut [u8]) -> Answer
     if out.len() < line.len() {
         return refused(Refusal::LentTooShort);
     }
-    let length = bytes::copy(line, out) as u64;
+    let length = octets::copy(line, out) as u64;
     Answer {
         number,
         place,

@@ -5,7 +5,7 @@ use Prim.Native.Nat.{ℕ, ◌+◌, ◌-◌, ◌≤◌, ◌<◌, min}
 use native.Mathlib.Omega.{arith}
 use lib.ListN.{length, take, drop, length-drop, length-take}
 use lib.Seq.{take-length}
-use Rattle.bytes.specs.Bytes.{index_of, slice}
+use Rattle.octets.specs.Bytes.{index_of, slice}
 use Rattle.lines.specs.declared.Line.TheVariants.{Found, Nothing}
 use Rattle.lines.specs.Text.{first_line, line_at}
 use Rattle.lines.proofs.Cutting.{index-le, lines-past, lines_step}

@@ -37,7 +37,7 @@ pub fn next_line(text: &[u8], cursor: Cursor) -> Line
     if size <= at {
         return Line::Nothing;
     }
-    let end = bytes::scan::find(text, at, size, LF);
+    let end = octets::find(text, at, LF);
     if end < size {
         return Line::Found {
             start: at,

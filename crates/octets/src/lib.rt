@@ -33,7 +33,7 @@ pub fn same(a: &[u8], b: &[u8]) -> bool
 // Copies a text to the front of memory, as far as there is room, and answers how many bytes that were.
 pub fn copy(text: &[u8], out: &mut [u8]) -> usize
     ensures count { result ≡ min (length text.now) (length out.old) }
-    ensures put { out.new ≡ take (min (length text.now) (length out.old)) text.now ++ drop (min (length text.now) (length out.old)) out.old }
+    ensures put { out.new ≡ take result text.now ++ drop result out.old }
 {
     let n = text.len().min(out.len());
     out[..n].copy_from_slice(&text[..n]);

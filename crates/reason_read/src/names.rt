@@ -28,7 +28,7 @@ fn is_column(word: &[u8], column: u32) -> bool
 {
     let mut name = [0u8; 20];
     let n = put_column(&mut name, 0, column);
-    check::same(word, &name[..n])
+    octets::same(word, &name[..n])
 }
 
 // A number that was read for a column, where that column has no name.

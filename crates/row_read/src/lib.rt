@@ -20,10 +20,10 @@ mod values; // the values of a row: number 2
 pub fn heading_of(names: &[u8]) -> Heading
     ensures { result ≡ heading_of names.now }
 {
-    if check::same(names, b"BO SO H NR NE OWN SINK BURST RATE HEAD DATA ACK") {
+    if octets::same(names, b"BO SO H NR NE OWN SINK BURST RATE HEAD DATA ACK") {
         return Heading::Twelve;
     }
-    if check::same(
+    if octets::same(
         names,
         b"BO SO H NR NE OWN SINK BURST RATE HEAD DATA ACK LOSS",
     ) {

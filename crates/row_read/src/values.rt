@@ -34,7 +34,7 @@ pub(crate) fn read_values(heading: Heading, row: &[u8]) -> Values
         if row.len() < at {
             return unreadable(numbers, k);
         }
-        let end = bytes::scan::find(row, at, row.len(), SPACE);
+        let end = octets::find(row, at, SPACE);
         let number = decimal::read_number(&row[at..end]);
         let Number::Value(v) = number else {
             return unreadable(numbers, k);

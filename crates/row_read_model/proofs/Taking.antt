@@ -7,7 +7,7 @@ use native.Mathlib.Decide.{dec_le}
 use native.Mathlib.Numerals.{add-one}
 use lib.ListN.{length, get_or, take, drop, set, length-set, length-take, replicate, get_or-replicate, get_or-eq_default}
 use lib.Seq.{take-suc-set, append_snoc, get_or-set_other, get_or-take}
-use Rattle.bytes.specs.Bytes.{index_of}
+use Rattle.octets.specs.Bytes.{index_of}
 use Rattle.decimal_model.specs.Number.{spelled, number_in}
 use Rattle.decimal_model.specs.declared.Number.TheVariants.{Value, Unreadable as None}
 use Rattle.decimal_model.proofs.Spelling.{number_read}

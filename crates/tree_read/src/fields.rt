@@ -19,7 +19,7 @@ pub fn read_node(line: &[u8]) -> NodeRead
         if line.len() < at {
             return NodeRead::Unreadable;
         }
-        let end = bytes::scan::find(line, at, line.len(), SPACE);
+        let end = octets::find(line, at, SPACE);
         let number = decimal::read_number(&line[at..end]);
         let Number::Value(v) = number else {
             return NodeRead::Unreadable;

@@ -7,7 +7,7 @@ use native.Mathlib.Omega.{arith}
 use native.Mathlib.Numerals.{add-one}
 use lib.ListN.{length, take, drop, set, length-set, get_or}
 use lib.Seq.{take-suc-set, take_all}
-use Rattle.bytes.specs.Bytes.{index_of}
+use Rattle.octets.specs.Bytes.{index_of}
 use Rattle.decimal_model.specs.Number.{readable, spelled, number_in}
 use Rattle.decimal_model.specs.declared.Number.TheVariants.{Value, Unreadable as None}
 use Rattle.decimal_model.proofs.Spelling.{number_read, number-none}
