@@ -4,7 +4,7 @@
 
 // What a call answers: 0, 0 and the text's length where the row is planned; else number and place of the refusal, and 0.
 #[repr(C)]
-#[derive(Drop)]
+#[derive(Clone, Copy)]
 pub struct Answer {
     pub number: u32,
     pub place: u32,
@@ -13,7 +13,7 @@ pub struct Answer {
 
 // Number and place of a refusal; 0 and 0 where there is none.
 #[repr(C)]
-#[derive(Drop)]
+#[derive(Clone, Copy)]
 pub struct Numbered {
     pub number: u32,
     pub place: u32,

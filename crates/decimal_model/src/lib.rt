@@ -3,7 +3,7 @@
 #![tactic(auto)]
 
 // What bytes spell: a number, or none that document 01 reads ('Rows of settings').
-#[derive(Drop)]
+#[derive(Clone, Copy)]
 pub enum Number {
     Value(u64),
     Unreadable,

@@ -4,16 +4,10 @@ use mathlib.Core.List.{List}
 use Prim.Native.Nat.{ℕ, ◌+◌, ◌-◌, ◌≤◌, ◌<◌, min}
 use native.Mathlib.Omega.{arith}
 use lib.ListN.{length, take, drop, length-drop, length-take}
-use lib.Seq.{take-length}
-use Rattle.octets.specs.Bytes.{index_of, slice}
+use Rattle.octets.specs.Bytes.{index_of}
 use Rattle.lines.specs.declared.Line.TheVariants.{Found, Nothing}
 use Rattle.lines.specs.Text.{first_line, line_at}
 use Rattle.lines.proofs.Cutting.{index-le, lines-past, lines_step}
-
--- where a search of all the rest of a text finds a byte
-pub found-in-rest : (b : ℕ) (s : List ℕ) (at end : ℕ) → end ≡ at + index_of b (slice at (length s) s) → end ≡ at + index_of b (drop at s)
-unfolding slice
-found-in-rest b s at end e = rw (take-length s) at e
 
 pub line-none : (s : List ℕ) (at : ℕ) → length s ≤ at → line_at s at ≡ Nothing
 unfolding line_at first_line

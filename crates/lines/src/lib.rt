@@ -10,13 +10,13 @@ ghost use Rattle.lines.specs.Text.{line_at, part_of};
 const LF: u8 = 10;
 
 // A position in a text, where the next line starts: 0 for the first.
-#[derive(Drop)]
+#[derive(Clone, Copy)]
 pub struct Cursor {
     pub at: usize,
 }
 
 // What stands at a cursor.
-#[derive(Drop)]
+#[derive(Clone, Copy)]
 pub enum Line {
     // A line: it starts at start and ends before end, where its LF or the text's end is; next is behind that.
     Found {

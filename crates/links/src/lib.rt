@@ -12,7 +12,7 @@ ghost use Rattle.links.specs.Answers.{reservation_answered, figures_answered};
 use measure::{FrameSymbols, Frames, Rate, Slots, Symbols};
 
 // The times on which every link of a network goes: BI, S and X.
-#[derive(Drop)]
+#[derive(Clone, Copy)]
 pub struct Timing {
     pub interval: Symbols,
     pub slot: Symbols,
@@ -20,14 +20,14 @@ pub struct Timing {
 }
 
 // What enters a node: a rate and a burst (the arrival curve).
-#[derive(Drop)]
+#[derive(Clone, Copy)]
 pub struct Load {
     pub rate: Rate,
     pub burst: FrameSymbols,
 }
 
 // The reservation of a link: k, m and T.
-#[derive(Drop)]
+#[derive(Clone, Copy)]
 pub struct Reservation {
     pub slots: Slots,
     pub frames: Frames,
@@ -35,7 +35,7 @@ pub struct Reservation {
 }
 
 // The figures of a link's line: the load that enters, the reservation, the queue's size and the delay.
-#[derive(Drop)]
+#[derive(Clone, Copy)]
 pub struct Figures {
     pub rate: Rate,
     pub burst: FrameSymbols,

@@ -12,23 +12,23 @@ use crate::number::{product, rounded_up, sum};
 pub mod number; // sums, products and quotients of bare numbers that cannot wrap
 
 // Time: one symbol is 16 microseconds.
-#[derive(Drop)]
+#[derive(Clone, Copy)]
 pub struct Symbols(pub u64);
 
 // Slots of a superframe.
-#[derive(Drop)]
+#[derive(Clone, Copy)]
 pub struct Slots(pub u64);
 
 // Frames: all of a network are alike.
-#[derive(Drop)]
+#[derive(Clone, Copy)]
 pub struct Frames(pub u64);
 
 // Bursts: frames times the symbols of a beacon interval.
-#[derive(Drop)]
+#[derive(Clone, Copy)]
 pub struct FrameSymbols(pub u64);
 
 // Rates: frames in each beacon interval.
-#[derive(Drop)]
+#[derive(Clone, Copy)]
 pub struct Rate(pub u64);
 
 impl Symbols {

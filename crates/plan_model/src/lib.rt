@@ -7,7 +7,7 @@ use measure::Symbols;
 use refusals::Verdict;
 
 // Whose link a line is of: an end node's, a router's upward or downward one; or the sink's line, which is no link's.
-#[derive(Drop)]
+#[derive(Clone, Copy)]
 pub enum Kind {
     EndNode,
     Upward,
@@ -16,7 +16,7 @@ pub enum Kind {
 }
 
 // One line of a row's plan: KIND, DEPTH, and the seven figures behind them.
-#[derive(Drop)]
+#[derive(Clone, Copy)]
 pub struct Line {
     pub kind: Kind,
     pub depth: u64,
@@ -25,14 +25,14 @@ pub struct Line {
 
 // One line of a surveyed tree's plan: document 01's nine columns, and ROUTE, the delay of a frame of the node's own over its whole route to
 // the sink.
-#[derive(Drop)]
+#[derive(Clone, Copy)]
 pub struct NodeLine {
     pub line: Line,
     pub route: Symbols,
 }
 
 // What settings come to: whether they are planned, and the length of the plan's text, 0 where they are refused.
-#[derive(Drop)]
+#[derive(Clone, Copy)]
 pub struct Plan {
     pub verdict: Verdict,
     pub length: usize,

@@ -3,14 +3,14 @@
 #![tactic(auto)]
 
 // Number and place of the refusal whose line it is, or that a line is none.
-#[derive(Drop)]
+#[derive(Clone, Copy)]
 pub enum ReasonRead {
     Reason { number: u32, place: u32 },
     NoReason,
 }
 
 // The place that a line or a part of it has, or that it cannot be read.
-#[derive(Drop)]
+#[derive(Clone, Copy)]
 pub enum Match {
     At(u32),
     Nowhere,

@@ -15,7 +15,7 @@ pub mod table; // the table's numbers and places
 pub mod cases; // the sort, the place and the values of each refusal
 
 // Why something is refused, with the values concerned. Columns count from 1.
-#[derive(Drop)]
+#[derive(Clone, Copy)]
 pub enum Refusal {
     // 1: the name line differs or is missing.
     Names,
@@ -59,7 +59,7 @@ pub enum Refusal {
 }
 
 // Which values are at odds with each other, and what they are.
-#[derive(Drop)]
+#[derive(Clone, Copy)]
 pub enum Conflict {
     // SO > BO.
     Orders { so: u64, bo: u64 },
@@ -78,7 +78,7 @@ pub enum Conflict {
 }
 
 // Why a surveyed tree is refused, with the values concerned.
-#[derive(Drop)]
+#[derive(Clone, Copy)]
 pub enum TreeRefusal {
     // 10: the line of names of the node list differs or is missing.
     NodeNames,
@@ -103,7 +103,7 @@ pub enum TreeRefusal {
 
 // What is told of a refusal: the position of its sort in the table, its place, and the values concerned, of which the sort's phrase takes
 // none, one or both.
-#[derive(Drop)]
+#[derive(Clone, Copy)]
 pub struct Facts {
     pub sort: usize,
     pub place: u32,
@@ -128,7 +128,7 @@ impl Refusal {
 }
 
 // The first broken condition of some that were checked, or none.
-#[derive(Drop)]
+#[derive(Clone, Copy)]
 pub enum Verdict {
     Kept,
     Broken(Refusal),

@@ -5,14 +5,14 @@
 use row_read_model::Heading;
 
 // What is printed for a row: its plan or an R line, or one line of English.
-#[derive(Drop)]
+#[derive(Clone, Copy)]
 pub enum Style {
     Plans,
     Reasons,
 }
 
 // How far an input was printed: nothing yet, or all before the row that starts at `at`, under that line of names.
-#[derive(Drop)]
+#[derive(Clone, Copy)]
 pub struct Progress {
     pub at: usize,
     pub heading: Heading,
@@ -20,7 +20,7 @@ pub struct Progress {
 }
 
 // The next piece: its length, how it goes on behind it, and whether there was one.
-#[derive(Drop)]
+#[derive(Clone, Copy)]
 pub struct Piece {
     pub length: usize,
     pub next: Progress,

@@ -14,7 +14,7 @@ use row_read_model::Heading;
 const SPACE: u8 = 32;
 
 // The values of a row, LOSS 0 where the names have none, and whether each can be read and nothing follows them.
-#[derive(Drop)]
+#[derive(Clone, Copy)]
 pub struct Values {
     pub numbers: [u64; 13],
     pub verdict: Verdict,

@@ -6,7 +6,7 @@ use refusals::Refusal;
 use settings_model::Settings;
 
 // Which line of names a line is.
-#[derive(Drop)]
+#[derive(Clone, Copy)]
 pub enum Heading {
     // BO SO H NR NE OWN SINK BURST RATE HEAD DATA ACK: LOSS is 0.
     Twelve,
@@ -17,7 +17,7 @@ pub enum Heading {
 }
 
 // What a row's bytes are: settings that keep every condition, or the first refusal.
-#[derive(Drop)]
+#[derive(Clone, Copy)]
 pub enum Row {
     Read(Settings),
     Refused(Refusal),

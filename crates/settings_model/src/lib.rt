@@ -4,7 +4,7 @@
 #![tactic(auto)]
 
 // The values of a row, by its columns: BO SO H NR NE OWN SINK BURST RATE HEAD DATA ACK LOSS.
-#[derive(Drop)]
+#[derive(Clone, Copy)]
 pub struct Settings {
     pub bo: u64,
     pub so: u64,
@@ -22,7 +22,7 @@ pub struct Settings {
 }
 
 // What is set alike on every radio of a network, in a row or beside a node list: BO SO HEAD DATA ACK LOSS.
-#[derive(Drop)]
+#[derive(Clone, Copy)]
 pub struct Radio {
     pub bo: u64,
     pub so: u64,

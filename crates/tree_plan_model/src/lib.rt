@@ -5,7 +5,7 @@
 use refusals::Verdict;
 
 // How far node lines were read: whether they keep number 10's rules, and how many nodes they have.
-#[derive(Drop)]
+#[derive(Clone, Copy)]
 pub struct Count {
     pub verdict: Verdict,
     pub nodes: usize,
@@ -13,7 +13,7 @@ pub struct Count {
 
 // What reading a list comes to: whether it keeps number 10 but for the sink, how many nodes it has, and of each, at its number, its parent
 // and the BURST and RATE of its sensor.
-#[derive(Drop)]
+#[derive(Clone, Copy)]
 pub struct Listed {
     pub verdict: Verdict,
     pub nodes: usize,
@@ -24,7 +24,7 @@ pub struct Listed {
 
 // What a stage comes to: the verdict on the conditions up to it, how many nodes the list has, and each node's kin, in three parts of 256
 // numbers: its parent, its first child and its next sibling, each 0 where it has none.
-#[derive(Drop)]
+#[derive(Clone, Copy)]
 pub struct Stage {
     pub verdict: Verdict,
     pub nodes: usize,

@@ -5,7 +5,7 @@
 use decimal_model::Number;
 
 // The arguments as they were read, BO SO HEAD DATA ACK SINK LOSS, and how many there are.
-#[derive(Drop)]
+#[derive(Clone, Copy)]
 pub struct Arguments {
     pub bo: Number,
     pub so: Number,

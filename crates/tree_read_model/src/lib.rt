@@ -3,7 +3,7 @@
 #![tactic(auto)]
 
 // The four values of a node's line.
-#[derive(Drop)]
+#[derive(Clone, Copy)]
 pub struct Entry {
     pub node: u64,
     pub parent: u64,
@@ -12,7 +12,7 @@ pub struct Entry {
 }
 
 // What a line says: a node, or nothing that can be read.
-#[derive(Drop)]
+#[derive(Clone, Copy)]
 pub enum NodeRead {
     Node(Entry),
     Unreadable,

@@ -1,5 +1,5 @@
 -- `lines::next_line` meets its contract. Assumes nothing.
-use Rattle.lines.proofs.LineLaws.{found-in-rest, line-none, line-found}
+use Rattle.lines.proofs.LineLaws.{line-none, line-found}
 use lib.ListN.{length}
 use native.Mathlib.Omega.{arith}
 use Prim.Native.Nat.{◌+◌, min}
@@ -14,7 +14,7 @@ pub returns-then-end-size : goal.returns-then-end-size
 returns-then-end-size c =
     let a = c.args in
     let end = c.find-end.result in
-    let e = found-in-rest 10 a.text.now a.cursor.at end c.find-end.ensures.place in
+    let e = c.find-end.ensures.place in
     let m : min (end + 1) (length a.text.now) ≡ end + 1 = omega (arith, c.if-end-size.true) in
     sym (rw m at (line-found a.text.now a.cursor.at end (omega (arith, c.if-size-at.false)) e))
 
@@ -22,6 +22,6 @@ pub returns : goal.returns
 returns c =
     let a = c.args in
     let end = c.find-end.result in
-    let e = found-in-rest 10 a.text.now a.cursor.at end c.find-end.ensures.place in
+    let e = c.find-end.ensures.place in
     let m : min (end + 1) (length a.text.now) ≡ end = omega (arith, c.if-end-size.false, c.find-end.ensures.inside) in
     sym (rw m at (line-found a.text.now a.cursor.at end (omega (arith, c.if-size-at.false)) e))
