@@ -10,7 +10,7 @@ use Rattle.settings_model.specs.Checks.{radio, checks, radio_checks}
 -- the answer to the settings of document 01's P1 with other BO, SO, HEAD, DATA, ACK and LOSS
 unfoldable pub asked : (bo so head payload ack loss : ℕ) → Verdict
 asked bo so head payload ack loss =
-    first_broken Broken Kept (checks (record { bo = bo; so = so; h = 1; nr = 2; ne = 1; own_val = 0; sink = 0; burst = 1; rate = 1; head = head; payload = payload; ack = ack; loss = loss }))
+    first_broken Broken Kept (checks (record { bo = bo; so = so; h = 1; nr = 2; ne = 1; own = 0; sink = 0; burst = 1; rate = 1; head = head; payload = payload; ack = ack; loss = loss }))
 
 pub record Examples : Type 0 where
   pub first : asked 8 4 19 7 0 0 ≡ Kept

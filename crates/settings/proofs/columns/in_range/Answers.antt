@@ -1,0 +1,37 @@
+-- `settings::columns::in_range` meets its contract. Assumes nothing.
+use mathlib.Core.Path.{◌≡◌, refl, sym, ◌∙◌}
+use Prim.Native.Nat.{◌+◌, ◌-◌, ◌≤◌}
+use native.Mathlib.Numerals.{add-one}
+use native.Mathlib.Nat.{add-zero, add-suc}
+use native.Mathlib.Omega.{arith}
+use lib.ListN.{length, drop}
+use borrow.Author.Rules.{rules}
+use borrow.Author.Tests.{not-true, not-false}
+use Rattle.refusals.proofs.Answering.{verdict}
+use Rattle.settings_model.specs.Checks.{ranged}
+use Rattle.settings_model.proofs.Ranging.{ranged-out, ranged-in, ranged-all}
+use Rattle.settings.proofs.columns.in_range.Goals as goal
+
+pub returns-then-not-fits : goal.returns-then-not-fits
+returns-then-not-fits c =
+    let a = c.args in
+    let l = c.loop-k in
+    let h = c.loop-k-test.true in
+    let e = sym c.fits2.ensures ∙ c.if-not-fits.true in
+    rw (c.outside.ensures, l.invariant.1, add-one) (sym (ranged-out a.before l.k a.numbers.now h e))
+
+pub loop-k-preserved : goal.loop-k-preserved
+loop-k-preserved c =
+    let a = c.args in
+    let l = c.loop-k in
+    let h = c.loop-k-test.true in
+    let e = sym c.fits2.ensures ∙ c.if-not-fits.false in
+    (omega (arith, h), rw (add-one, add-suc) (l.invariant.1 ∙ ranged-in a.before l.k a.numbers.now h e))
+
+pub returns : goal.returns
+returns c =
+    let a = c.args in
+    let l = c.loop-k in
+    let z : l.k ≡ length a.numbers.now = omega (arith, l.invariant.0, c.loop-k-test.false) in
+    let e = rw z at l.invariant.1 in
+    sym (e ∙ ranged-all (a.before + length a.numbers.now) a.numbers.now)
