@@ -140,6 +140,7 @@ module _ (t : Tree) (p : Rooted t) (g : ℕ → ℕ) (y : ℕ → ℕ → ℕ)
 
   low-within : (k : ℕ) → 1 ≤ k → k ≤ t.nodes → low k ≤ sum_to g t.nodes
   unfolding forest
+  low-within zero one most = absurd (omega arith)
   low-within (suc k) one most =
       let here : low (suc k) ≤ forest (suc k) =
       rw (le-leb (suc k) (suc k) (le_refl (suc k)), lt-ltb (t.parent (suc k)) (suc k) (p.smaller (suc k) one most)) at (sum-has (λ w. pick (leb (suc k) w && ltb (t.parent w) (suc k)) (low w)) (suc k) t.nodes one most) in

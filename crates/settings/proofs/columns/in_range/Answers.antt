@@ -17,7 +17,7 @@ returns-then-not-fits c =
     let a = c.args in
     let l = c.loop-k in
     let h = c.loop-k-test.true in
-    let e = sym c.fits2.ensures ∙ c.if-not-fits.true in
+    let e = sym c.fits.ensures ∙ c.if-not-fits.true in
     rw (c.outside.ensures, l.invariant.1, add-one) (sym (ranged-out a.before l.k a.numbers.now h e))
 
 pub loop-k-preserved : goal.loop-k-preserved
@@ -25,7 +25,7 @@ loop-k-preserved c =
     let a = c.args in
     let l = c.loop-k in
     let h = c.loop-k-test.true in
-    let e = sym c.fits2.ensures ∙ c.if-not-fits.false in
+    let e = sym c.fits.ensures ∙ c.if-not-fits.false in
     (omega (arith, h), rw (add-one, add-suc) (l.invariant.1 ∙ ranged-in a.before l.k a.numbers.now h e))
 
 pub returns : goal.returns
