@@ -1,0 +1,12 @@
+-- What the loops of `tree_read::fields::read_node` keep. Assumes nothing.
+use mathlib.Core.Path.{refl, sym, ◌∙◌}
+use Prim.Native.Nat.{◌-◌}
+use native.Mathlib.Omega.{arith}
+use Rattle.tree_read_model.proofs.Taking.{Taken, taken_none, taken-missing, taken-unreadable, taken-value, taken-after, taken-all, finished}
+use Rattle.tree_read.proofs.fields.read_node.Given as goal
+
+abbrev pub invariant-loop-k : goal.invariant-loop-k
+invariant-loop-k l = Taken l.line l.numbers l.at l.k
+
+abbrev pub decreases-loop-k : goal.decreases-loop-k
+decreases-loop-k l = 4 - l.k
