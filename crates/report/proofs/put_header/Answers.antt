@@ -6,4 +6,4 @@ use Rattle.report.proofs.put_header.Goals as goal
 
 pub returns-clause-out_after : goal.returns-clause-out_after
 unfolding header ascii
-returns-clause-out_after c = (c.put_bytes.ensures).1
+returns-clause-out_after c = c.put_bytes.ensures.out_after

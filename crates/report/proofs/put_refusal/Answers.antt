@@ -13,10 +13,10 @@ returns-clause-value c =
     let w = c.put_spaced-n.ensures in
     let v = c.put_spaced-n-2.ensures in
     let p = put_one a.out.now 0 _ _ c.put_byte.ensures in
-    let q = put-behind (32 ∷ decimal c.number.result) p w.value w.upper_bound.1 in
-    let r = put-behind (32 ∷ decimal c.place.result) q v.value v.upper_bound.1 in
+    let q = put-behind (32 ∷ decimal c.number.result) p w.value w.out_after in
+    let r = put-behind (32 ∷ decimal c.place.result) q v.value v.out_after in
     let s = byte-behind _ r c.put_byte-2.ensures in
-    let t = rw (c.number.ensures, c.place.ensures) at s in (rw (refusal-spaced a.refusal) (front_ends t, (omega (arith, w.upper_bound.0, v.upper_bound.0), t.leaves))).0
+    let t = rw (c.number.ensures, c.place.ensures) at s in rw (refusal-spaced a.refusal) (front_ends t)
 
 pub returns-clause-out_after : goal.returns-clause-out_after
 returns-clause-out_after c =
@@ -24,7 +24,7 @@ returns-clause-out_after c =
     let w = c.put_spaced-n.ensures in
     let v = c.put_spaced-n-2.ensures in
     let p = put_one a.out.now 0 _ _ c.put_byte.ensures in
-    let q = put-behind (32 ∷ decimal c.number.result) p w.value w.upper_bound.1 in
-    let r = put-behind (32 ∷ decimal c.place.result) q v.value v.upper_bound.1 in
+    let q = put-behind (32 ∷ decimal c.number.result) p w.value w.out_after in
+    let r = put-behind (32 ∷ decimal c.place.result) q v.value v.out_after in
     let s = byte-behind _ r c.put_byte-2.ensures in
-    let t = rw (c.number.ensures, c.place.ensures) at s in (rw (refusal-spaced a.refusal) (front_ends t, (omega (arith, w.upper_bound.0, v.upper_bound.0), t.leaves))).2
+    let t = rw (c.number.ensures, c.place.ensures) at s in rw (refusal-spaced a.refusal) (t.leaves)

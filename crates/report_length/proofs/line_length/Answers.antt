@@ -7,4 +7,4 @@ use Rattle.report_model.proofs.LineText.{line-columns}
 use Rattle.report_length.proofs.line_length.Goals as goal
 
 pub returns-clause-value : goal.returns-clause-value
-returns-clause-value c = (omega (arith, simp length-append at (ap length (line-columns c.args.line)))).0
+returns-clause-value c = omega (arith, simp length-append at (ap length (line-columns c.args.line)))

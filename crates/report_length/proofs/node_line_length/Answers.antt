@@ -10,4 +10,4 @@ use Rattle.report_length.proofs.node_line_length.Goals as goal
 
 pub returns-clause-value : goal.returns-clause-value
 returns-clause-value c =
-    let n = c.args.node in (omega (arith, simp length-append at (ap length (node-columns n)), length-append (node_text n) (10 ∷ []))).0
+    let n = c.args.node in omega (arith, simp length-append at (ap length (node-columns n)), length-append (node_text n) (10 ∷ []))

@@ -8,4 +8,4 @@ pub overflow_add-result : goal.overflow_add-result
 overflow_add-result c = omega (arith, at-most-twenty c.args.n c.ranges.n.fits)
 
 pub returns-clause-upper_bound : goal.returns-clause-upper_bound
-returns-clause-upper_bound c = (omega (arith, at-most-twenty c.args.n c.ranges.n.fits)).1
+returns-clause-upper_bound c = omega (arith, at-most-twenty c.args.n c.ranges.n.fits)

@@ -17,18 +17,18 @@ use Rattle.reason_table.proofs.columns.put_column.Goals as goal
 pub returns-then-column-lt1-clause-value : goal.returns-then-column-lt1-clause-value
 unfolding column_name named
 returns-then-column-lt1-clause-value c =
-    let z : c.args.column ≡ 0 = omega arith in (rw z (rw z at c.put_number.ensures)).0
+    let z : c.args.column ≡ 0 = omega arith in rw z ((rw z at c.put_number.ensures).value)
 
 pub returns-then-column-lt1-clause-out_after : goal.returns-then-column-lt1-clause-out_after
 unfolding column_name named
 returns-then-column-lt1-clause-out_after c =
-    let z : c.args.column ≡ 0 = omega arith in (rw z (rw z at c.put_number.ensures)).1
+    let z : c.args.column ≡ 0 = omega arith in rw z ((rw z at c.put_number.ensures).out_after)
 
 pub returns-then-column-gt13-clause-value : goal.returns-then-column-gt13-clause-value
-returns-then-column-gt13-clause-value c = (rw (name-above c.args.column (omega arith)) c.put_number-then-column-gt13.ensures).0
+returns-then-column-gt13-clause-value c = rw (name-above c.args.column (omega arith)) (c.put_number-then-column-gt13.ensures.value)
 
 pub returns-then-column-gt13-clause-out_after : goal.returns-then-column-gt13-clause-out_after
-returns-then-column-gt13-clause-out_after c = (rw (name-above c.args.column (omega arith)) c.put_number-then-column-gt13.ensures).1
+returns-then-column-gt13-clause-out_after c = rw (name-above c.args.column (omega arith)) (c.put_number-then-column-gt13.ensures.out_after)
 
 pub returns-clause-value : goal.returns-clause-value
 unfolding joined starts_from names twelve every_column ascii

@@ -30,7 +30,7 @@ returns-then-sort-lt7-clause-value c =
 pub returns-then-sort-lt7-clause-out_after : goal.returns-then-sort-lt7-clause-out_after
 unfolding joined starts_from phrases table ascii
 returns-then-sort-lt7-clause-out_after c =
-    let h = phrase-stands 0 7 c.args.sort c.args.sort (omega arith) (omega arith) (omega arith) in (put_as c.args.out.now c.args.sort _ h.text (omega arith) c.put_between.ensures.value c.put_between.ensures.out_after).2
+    let h = phrase-stands 0 7 c.args.sort c.args.sort (omega arith) (omega arith) (omega arith) in (put_as c.args.out.now c.args.sort _ h.text (omega arith) c.put_between.ensures.value c.put_between.ensures.out_after).1.1
 
 pub returns-then-sort-lt13-clause-value : goal.returns-then-sort-lt13-clause-value
 unfolding joined starts_from phrases table ascii
@@ -40,7 +40,7 @@ returns-then-sort-lt13-clause-value c =
 pub returns-then-sort-lt13-clause-out_after : goal.returns-then-sort-lt13-clause-out_after
 unfolding joined starts_from phrases table ascii
 returns-then-sort-lt13-clause-out_after c =
-    let h = phrase-stands 7 6 c.args.sort (c.args.sort - 7) (omega arith) (omega arith) (omega arith) in (put_as c.args.out.now c.args.sort _ h.text (omega arith) c.put_between-then-sort-lt13.ensures.value c.put_between-then-sort-lt13.ensures.out_after).2
+    let h = phrase-stands 7 6 c.args.sort (c.args.sort - 7) (omega arith) (omega arith) (omega arith) in (put_as c.args.out.now c.args.sort _ h.text (omega arith) c.put_between-then-sort-lt13.ensures.value c.put_between-then-sort-lt13.ensures.out_after).1.1
 
 pub returns-then-sort-lt-SORTS-clause-value : goal.returns-then-sort-lt-SORTS-clause-value
 unfolding joined starts_from phrases table ascii
@@ -50,12 +50,12 @@ returns-then-sort-lt-SORTS-clause-value c =
 pub returns-then-sort-lt-SORTS-clause-out_after : goal.returns-then-sort-lt-SORTS-clause-out_after
 unfolding joined starts_from phrases table ascii
 returns-then-sort-lt-SORTS-clause-out_after c =
-    let h = phrase-stands 13 8 c.args.sort (c.args.sort - 13) (omega arith) (omega arith) (omega arith) in (put_as c.args.out.now c.args.sort _ h.text (omega arith) c.put_between-then-sort-lt-SORTS.ensures.value c.put_between-then-sort-lt-SORTS.ensures.out_after).2
+    let h = phrase-stands 13 8 c.args.sort (c.args.sort - 13) (omega arith) (omega arith) (omega arith) in (put_as c.args.out.now c.args.sort _ h.text (omega arith) c.put_between-then-sort-lt-SORTS.ensures.value c.put_between-then-sort-lt-SORTS.ensures.out_after).1.1
 
 pub returns-clause-value : goal.returns-clause-value
 unfolding table
-returns-clause-value c = let e = phrase-else c.args.sort (omega arith) in (rw e (refl, (omega arith, refl))).0
+returns-clause-value c = let e = phrase-else c.args.sort (omega arith) in rw e (refl)
 
 pub returns-clause-out_after : goal.returns-clause-out_after
 unfolding table
-returns-clause-out_after c = let e = phrase-else c.args.sort (omega arith) in (rw e (refl, (omega arith, refl))).2
+returns-clause-out_after c = let e = phrase-else c.args.sort (omega arith) in rw e (refl)

@@ -19,4 +19,4 @@ returns-clause-upper_bound c =
     let h = at-most-twenty a.n c.ranges.n.fits in
     let w = c.put_number.ensures in
     let space = put_one a.out.now a.at _ _ c.put_byte.ensures in
-    let p = put-behind (decimal a.n) space (ap (λ (k : ℕ). a.at + 1 + k) w.value) w.out_after in ((p.ends, (omega (arith, h.1, w.value), p.leaves))).1
+    let p = put-behind (decimal a.n) space (ap (λ (k : ℕ). a.at + 1 + k) w.value) w.out_after in omega (arith, h.1, w.value)
