@@ -1,5 +1,5 @@
 -- A row of twelve values and the same row with LOSS 0 have the same answer. Assumes nothing.
-use mathlib.Core.Path.{◌≡◌, refl, ap, sym, ◌∙◌}
+use mathlib.Core.Path.{◌≡◌, refl, ap, sym, ◌∙◌, subst}
 use mathlib.Core.Bool.{not, cond}
 use mathlib.Core.List.{List, [], ◌∷◌, ◌++◌, map, map-append, append-nil}
 use Prim.Native.Nat.{ℕ, suc, ◌≤◌}
@@ -16,6 +16,7 @@ use Rattle.refusals.specs.declared.Refusal.{Refusal}
 use Rattle.refusals.specs.declared.Refusal.TheVariants.{Unreadable}
 use Rattle.refusals.specs.Conditions.{Condition, first_broken}
 use Rattle.refusals.proofs.Answering.{first-append}
+use Rattle.settings_model.specs.declared.Settings.{Settings}
 use Rattle.settings_model.specs.Columns.{Column, twelve, every_column}
 use Rattle.row_read_model.specs.declared.Heading.TheVariants.{Twelve, Thirteen}
 use Rattle.row_read_model.specs.declared.Row.TheVariants.{Read, Refused}
@@ -88,6 +89,8 @@ names-of-thirteen = refl
 pub same-without-loss : SameWithoutLoss
 unfolding row_under conditions headed is_other columns_under first_broken
 same-without-loss row e =
-    rw (settings-without-loss row e)
+    subst
+    (λ (s : Settings). first_broken Refused (Read s) (conditions Thirteen (with_zero row)) ≡ row_under Twelve row)
+    (sym (settings-without-loss row e))
     (rw (append-nil (columns_read 1 every_column (fields (with_zero row))), append-nil (columns_read 1 twelve (fields row))) at
     (written-without-loss Refused (Read (settings_of (values_in row))) row [] e))
