@@ -1,0 +1,15 @@
+-- What the loops of `reason_read::numbers::value_of` keep. Assumes nothing.
+use mathlib.Core.Path.{◌≡◌, refl, sym, ◌∙◌}
+use Prim.Native.Nat.{◌+◌, ◌-◌, ◌^◌, ◌≤◌, min}
+use native.Mathlib.Omega.{arith}
+use lib.ListN.{length, drop, drop_of_length-le}
+use Rattle.decimal_model.specs.Number.{spelled_after, spelled}
+use Rattle.decimal_model.proofs.Spelling.{spelled_step}
+use Rattle.reason_model.proofs.Words.{spelled-limited}
+use Rattle.reason_read.proofs.numbers.value_of.Given as goal
+
+abbrev pub invariant-loop-i : goal.invariant-loop-i
+invariant-loop-i l = (l.i ≤ length l.word) × (l.v ≤ 2 ^ 32) × (min (spelled_after l.v (drop l.i l.word)) (2 ^ 32) ≡ min (spelled l.word) (2 ^ 32))
+
+abbrev pub decreases-loop-i : goal.decreases-loop-i
+decreases-loop-i l = length l.word - l.i
