@@ -27,10 +27,10 @@ pub returns-clause-value : goal.returns-clause-value
 returns-clause-value c =
     let a = c.args in
     let n : c.loop-i.i ≡ min a.lines 26 = omega arith in
-    let p = rw n c (text-put a.table.now c.loop-i.i c.put_header-end.ensures.out_after c.loop-i.invariant.2) in front_ends p
+    let p = rw n at (text-put a.table.now c.loop-i.i c.put_header-end.ensures.out_after c.loop-i.invariant.2) in front_ends p
 
 pub returns-clause-out_after : goal.returns-clause-out_after
 returns-clause-out_after c =
     let a = c.args in
     let n : c.loop-i.i ≡ min a.lines 26 = omega arith in
-    let p = rw n c (text-put a.table.now c.loop-i.i c.put_header-end.ensures.out_after c.loop-i.invariant.2) in p.leaves
+    let p = rw n at (text-put a.table.now c.loop-i.i c.put_header-end.ensures.out_after c.loop-i.invariant.2) in p.leaves

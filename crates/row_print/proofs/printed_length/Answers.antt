@@ -21,4 +21,4 @@ loop-i-preserved c =
 pub returns-clause-value : goal.returns-clause-value
 returns-clause-value c =
     let a = c.args in
-    let n : c.loop-i.i ≡ min a.lines 26 = omega arith in rw (← n) (((omega (arith, text-length a.table.now c.loop-i.i))).0)
+    let n : c.loop-i.i ≡ min a.lines 26 = omega arith in rw (← n) (omega (arith, text-length a.table.now c.loop-i.i))

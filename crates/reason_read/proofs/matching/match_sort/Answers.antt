@@ -12,5 +12,5 @@ pub returns : goal.returns
 returns c =
     let a = c.args in
     let p = c.put_phrase-n in
-    let e = put_front p.new.0 (replicate 128 0) (phrase_at a.sort) p.result p.ensures.value (omega (arith, p.ensures.upper_bound)) p.ensures.out_after in
+    let e = put_front p.new.out (replicate 128 0) (phrase_at a.sort) p.result p.ensures.value (omega (arith, p.ensures.upper_bound)) p.ensures.out_after in
     c.match_phrase.ensures ∙ rw (e, c.place_at.ensures) refl

@@ -14,12 +14,12 @@ pub slice_bounds-name-end : goal.slice_bounds-name-end
 slice_bounds-name-end c = let p = c.put_column-n in omega (arith, p.ensures.value, p.auto.0, column-short c.args.column (omega (arith, c.ranges.column.fits)))
 
 pub slice_bounds-same-end : goal.slice_bounds-same-end
-slice_bounds-same-end c = let p = c.put_column-n in sym (length-take-le p.result p.new.0 (omega (arith, p.ensures.value, p.auto.0, column-short c.args.column (omega (arith, c.ranges.column.fits)))))
+slice_bounds-same-end c = let p = c.put_column-n in sym (length-take-le p.result p.new.out (omega (arith, p.ensures.value, p.auto.0, column-short c.args.column (omega (arith, c.ranges.column.fits)))))
 
 pub returns : goal.returns
 returns c =
     let a = c.args in
     let p = c.put_column-n in
     let s = column-short a.column (omega (arith, c.ranges.column.fits)) in
-    let e = put_front p.new.0 (replicate 20 0) (column_name a.column) p.result p.ensures.value (omega (arith, p.ensures.value, s)) p.ensures.out_after in
+    let e = put_front p.new.out (replicate 20 0) (column_name a.column) p.result p.ensures.value (omega (arith, p.ensures.value, s)) p.ensures.out_after in
     same-decided c.same.result a.word.now (column_name a.column) (rw e at c.same.ensures.alike) (rw e at c.same.ensures.told)
