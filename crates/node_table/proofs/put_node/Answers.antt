@@ -7,11 +7,7 @@ use Rattle.node_table_model.proofs.NodeLaws.{node-put}
 use borrow.Author.Rules.{rules}
 use Rattle.node_table.proofs.put_node.Goals as goal
 
--- put at 10 * k, where k is the lower of i and 254
-returns : goal.After-slice_known-3-1
+pub returns : goal.returns
 returns c =
     node-put (10 * c.lower-at.result) c.args.node c.args.table.now _ _ c.put_line.ensures c.put_number.ensures
     ∙ ap (λ (k : ℕ). sets c.args.table.now (10 * k) (node_numbers c.args.node)) c.lower-at.ensures
-
-pub returns : goal.returns
-returns c = ?

@@ -53,9 +53,9 @@ returns-in-Broken c =
 pub returns-then-sink_right : goal.returns-then-sink_right
 returns-then-sink_right c =
     let r = c.read_list-listed in
-    sym (sink-kept (shape (take (r.result.nodes + 1) r.result.parents)) c.args.sink (sym c.if-sink_right.true ∙ c.sink_right.ensures)) ∙ sink-at d
+    sym (sink-kept (shape (take (r.result.nodes + 1) r.result.parents)) c.args.sink (sym c.if-sink_right.true ∙ c.sink_right.ensures)) ∙ sink-at c
 
 pub returns : goal.returns
 returns c =
     let r = c.read_list-listed in
-    sym (sink-broken (shape (take (r.result.nodes + 1) r.result.parents)) c.args.sink (sym c.if-sink_right.false ∙ c.sink_right.ensures)) ∙ sink-at d
+    sym (sink-broken (shape (take (r.result.nodes + 1) r.result.parents)) c.args.sink (sym c.if-sink_right.false ∙ c.sink_right.ensures)) ∙ sink-at c

@@ -14,7 +14,7 @@ returns-then-part-eq64 c = rw c.if-part-eq64.true c.column_in.ensures
 
 pub returns-then-part-eq37 : goal.returns-then-part-eq37
 unfolding part_of meant
-returns-then-part-eq37 c = rw c.if-part-eq37.true c.IsPlace-in.ensures
+returns-then-part-eq37 c = rw c.if-part-eq37.true c.place_in.ensures
 
 pub returns-then-part-eq35 : goal.returns-then-part-eq35
 unfolding part_of meant

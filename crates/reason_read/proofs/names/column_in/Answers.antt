@@ -36,4 +36,4 @@ returns c =
     let l = c.loop-k in
     let z : l.k ≡ 13 = omega (arith, l.invariant.0, c.loop-k-test.false) in
     let e = rw z at l.invariant.1 in
-    c.without_name.ensures ∙ ap unnamed c.IsPlace-in.ensures ∙ sym (column-none (unnamed (place_in w)) w 14) ∙ e
+    c.without_name.ensures ∙ ap unnamed c.place_in.ensures ∙ sym (column-none (unnamed (place_in w)) w 14) ∙ e

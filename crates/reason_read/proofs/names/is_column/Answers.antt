@@ -11,10 +11,10 @@ use borrow.Author.Rules.{rules}
 use Rattle.reason_read.proofs.names.is_column.Goals as goal
 
 pub slice_bounds-name-end : goal.slice_bounds-name-end
-slice_bounds-name-end c = let p = c.put_column-n in omega (arith, p.ensures.value, p.auto.0, column-short c.args.column (omega (arith, c.ranges.column.fits)))
+slice_bounds-name-end c = let p = c.put_column-n in omega (arith, p.ensures.value, p.auto.out, column-short c.args.column (omega (arith, c.ranges.column.fits)))
 
 pub slice_bounds-same-end : goal.slice_bounds-same-end
-slice_bounds-same-end c = let p = c.put_column-n in sym (length-take-le p.result p.new.out (omega (arith, p.ensures.value, p.auto.0, column-short c.args.column (omega (arith, c.ranges.column.fits)))))
+slice_bounds-same-end c = let p = c.put_column-n in sym (length-take-le p.result p.new.out (omega (arith, p.ensures.value, p.auto.out, column-short c.args.column (omega (arith, c.ranges.column.fits)))))
 
 pub returns : goal.returns
 returns c =

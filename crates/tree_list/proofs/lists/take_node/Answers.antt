@@ -34,11 +34,9 @@ bounds-rates-k c = omega (arith, (small c.args.k c.in-Node.entry (sym c.if-entry
 pub returns-then-entry_right : goal.returns-then-entry_right
 returns-then-entry_right c =
     let a = c.args in
-    let e = c.reading-1.given in
     taken a.k a.line.now a.parents.now a.bursts.now a.rates.now c.in-Node.entry (sym c.read_node-reading.ensures ∙ c.in-Node.is) (sym c.if-entry_right.true ∙ c.entry_right.ensures)
 
 pub returns : goal.returns
 returns c =
     let a = c.args in
-    let e = c.reading-1.given in
     not_taken a.k a.line.now _ _ _ _ _ _ (wrong a.k a.line.now c.in-Node.entry (sym c.read_node-reading.ensures ∙ c.in-Node.is) (sym c.if-entry_right.false ∙ c.entry_right.ensures))
