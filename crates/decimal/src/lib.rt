@@ -5,7 +5,7 @@
 
 ghost use Rattle.std.specs.Prelude.{◌≡◌, ◌+◌, ◌≤◌, ◌<◌, length, set};
 ghost use Rattle.std.proofs.lemmas.List.Edits.{sets};
-ghost use Rattle.decimal_model.specs.Number.{digit, shaped, number_in};
+ghost use Rattle.decimal_model.specs.Number.{digit, digits, shaped, number_in};
 ghost use Rattle.decimal_model.specs.Decimal.{decimal};
 ghost use Rattle.decimal_model.specs.Inner.{four};
 
@@ -55,6 +55,20 @@ pub fn is_digit(b: u8) -> bool
         return false;
     }
     b <= 57
+}
+
+// Whether all bytes are digits.
+pub fn all_digits(s: &[u8]) -> bool
+    ensures { result ≡ digits s.now }
+{
+    let mut i = 0;
+    while i < s.len() {
+        if !is_digit(s[i]) {
+            return false;
+        }
+        i += 1;
+    }
+    true
 }
 
 // A byte as a number.

@@ -1,11 +1,7 @@
 -- `buffer::put_some` meets its contract. Assumes nothing.
-use mathlib.Core.Path.{◌≡◌, refl, ap, ◌∙◌}
-use Prim.Native.Nat.{◌-◌, ◌≤◌}
+use mathlib.Core.Path.{◌∙◌}
 use native.Mathlib.Omega.{arith}
 use native.Mathlib.Numerals.{add-one}
-use lib.ListN.{length, take}
-use lib.Seq.{sets, length-sets, take_all}
-use borrow.Author.Rules.{rules}
 use Rattle.buffer.proofs.Putting.{sets-next}
 use Rattle.buffer.proofs.put_some.Goals as goal
 

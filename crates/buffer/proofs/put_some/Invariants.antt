@@ -1,11 +1,8 @@
 -- What the loops of `buffer::put_some` keep. Assumes nothing.
-use mathlib.Core.Path.{◌≡◌, refl, ap, ◌∙◌}
+use mathlib.Core.Path.{◌≡◌}
 use Prim.Native.Nat.{◌-◌, ◌≤◌}
-use native.Mathlib.Omega.{arith}
-use native.Mathlib.Numerals.{add-one}
 use lib.ListN.{length, take}
-use lib.Seq.{sets, length-sets, take_all}
-use Rattle.buffer.proofs.Putting.{sets-next}
+use lib.Seq.{sets}
 use Rattle.buffer.proofs.put_some.Given as goal
 
 abbrev pub invariant-loop-k : goal.invariant-loop-k

@@ -1,7 +1,6 @@
 -- `measure::service_time` meets its contract. Assumes nothing.
 use Rattle.measure.specs.Measures.{symbols, service_time}
 use mathlib.Core.Path.{ap}
-use borrow.Author.Rules.{rules}
 use Rattle.measure.proofs.service_time.Goals as goal
 
 pub returns : goal.returns

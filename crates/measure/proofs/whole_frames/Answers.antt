@@ -1,7 +1,6 @@
 -- `measure::whole_frames` meets its contract. Assumes nothing.
 use Rattle.measure.specs.Measures.{frames, whole_frames}
 use mathlib.Core.Path.{ap}
-use borrow.Author.Rules.{rules}
 use Rattle.measure.proofs.whole_frames.Goals as goal
 
 pub returns : goal.returns

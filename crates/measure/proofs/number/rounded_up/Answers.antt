@@ -1,8 +1,7 @@
 -- `measure::number::rounded_up` meets its contract. Assumes nothing.
-use Rattle.measure.proofs.Rounding.{rounded-up-even, rounded-up-odd, quotient-below, rounded-up-by-zero}
+use Rattle.measure.proofs.Rounding.{rounded-up-even, rounded-up-odd, rounded-up-by-zero}
 use native.Mathlib.Omega.{arith}
 use mathlib.Core.Path.{◌≡◌, sym}
-use borrow.Author.Rules.{rules}
 use Rattle.measure.proofs.number.rounded_up.Goals as goal
 
 pub returns-then-b-eq0 : goal.returns-then-b-eq0

@@ -1,6 +1,5 @@
 -- `refusals::Refusal::number` meets its contract. Assumes nothing.
 use Rattle.refusals.specs.Refusals.{number_of}
-use borrow.Author.Rules.{rules}
 use Rattle.refusals.proofs.Refusal.number.Goals as goal
 
 pub returns : goal.returns

@@ -1,6 +1,5 @@
 -- `refusals::Refusal::place` meets its contract. Assumes nothing.
 use Rattle.refusals.specs.Refusals.{place_of}
-use borrow.Author.Rules.{rules}
 use Rattle.refusals.proofs.Refusal.place.Goals as goal
 
 pub returns : goal.returns

@@ -1,6 +1,5 @@
 -- `refusals::cases::conflict_facts` meets its contract. Assumes nothing.
 use Rattle.refusals.specs.Refusals.{conflict_facts}
-use borrow.Author.Rules.{rules}
 use Rattle.refusals.proofs.cases.conflict_facts.Goals as goal
 
 pub returns-in-Orders : goal.returns-in-Orders

@@ -1,6 +1,5 @@
 -- `refusals::cases::facts_of` meets its contract. Assumes nothing.
 use Rattle.refusals.specs.Refusals.{facts_of}
-use borrow.Author.Rules.{rules}
 use Rattle.refusals.proofs.cases.facts_of.Goals as goal
 
 pub returns-in-Names : goal.returns-in-Names

@@ -1,6 +1,5 @@
 -- `refusals::cases::tree_facts` meets its contract. Assumes nothing.
 use Rattle.refusals.specs.Refusals.{tree_facts}
-use borrow.Author.Rules.{rules}
 use Rattle.refusals.proofs.cases.tree_facts.Goals as goal
 
 pub returns-in-NodeNames : goal.returns-in-NodeNames

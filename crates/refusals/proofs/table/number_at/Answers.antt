@@ -3,7 +3,6 @@ use mathlib.Core.Path.{sym, ap}
 use native.Mathlib.Omega.{arith}
 use lib.ListN.{get_or-map, get_or-eq_default}
 use Rattle.refusals.specs.Table.{Always, Sort, sort, table, sort_at}
-use borrow.Author.Rules.{rules}
 use Rattle.refusals.proofs.table.number_at.Goals as goal
 
 pub returns-then-sort-lt-SORTS : goal.returns-then-sort-lt-SORTS
