@@ -58,12 +58,12 @@ pub fn is_digit(b: u8) -> bool
 }
 
 // Whether all bytes are digits.
-pub fn all_digits(s: &[u8]) -> bool
-    ensures { result ≡ digits s.now }
+pub fn all_digits(text: &[u8]) -> bool
+    ensures { result ≡ digits text.now }
 {
     let mut i = 0;
-    while i < s.len() {
-        if !is_digit(s[i]) {
+    while i < text.len() {
+        if !is_digit(text[i]) {
             return false;
         }
         i += 1;

@@ -11,7 +11,7 @@ use Rattle.decimal.proofs.all_digits.Goals as goal
 
 pub returns-then-not-is_digit : goal.returns-then-not-is_digit
 returns-then-not-is_digit c =
-    let s = c.args.s.now in
+    let s = c.args.text.now in
     let l = c.loop-i in
     let e = digits_step s l.i c.loop-i-test.true in
     let d = sym c.is_digit.ensures ∙ c.if-not-is_digit.true in
@@ -19,7 +19,7 @@ returns-then-not-is_digit c =
 
 pub loop-i-preserved : goal.loop-i-preserved
 loop-i-preserved c =
-    let s = c.args.s.now in
+    let s = c.args.text.now in
     let l = c.loop-i in
     let h = c.loop-i-test.true in
     let e = digits_step s l.i h in
@@ -29,6 +29,6 @@ loop-i-preserved c =
 pub returns : goal.returns
 unfolding digits
 returns c =
-    let s = c.args.s.now in
+    let s = c.args.text.now in
     let l = c.loop-i in
     rw (sym l.invariant.1, drop_of_length-le s {i = l.i} (omega (arith, c.loop-i-test.false))) refl

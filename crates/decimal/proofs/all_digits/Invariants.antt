@@ -9,7 +9,7 @@ use Rattle.decimal_model.proofs.Spelling.{digits_step}
 use Rattle.decimal.proofs.all_digits.Given as goal
 
 abbrev pub invariant-loop-i : goal.invariant-loop-i
-invariant-loop-i l = (l.i ≤ length l.s) × (digits (drop l.i l.s) ≡ digits l.s)
+invariant-loop-i l = (l.i ≤ length l.text) × (digits (drop l.i l.text) ≡ digits l.text)
 
 abbrev pub decreases-loop-i : goal.decreases-loop-i
-decreases-loop-i l = length l.s - l.i
+decreases-loop-i l = length l.text - l.i
