@@ -1,11 +1,6 @@
 -- `tree_list::lists::entry_right` meets its contract. Assumes nothing.
 use mathlib.Core.Path.{sym, ◌∙◌}
 use Rattle.tree_list.proofs.Rules.{entry-many, entry_other, entry-sensor, entry-orphan}
-use borrow.Author.Rules.{rules}
-use Rattle.tree_list.proofs.lists.entry_right.Reads as reads
-use Rattle.tree_list.proofs.lists.entry_right.Lts as lts
-use Rattle.tree_list.proofs.lists.parent_right.Reads as parent-right-reads
-use Rattle.tree_list.proofs.lists.sensor_right.Reads as sensor-right-reads
 use Rattle.tree_list.proofs.lists.entry_right.Goals as goal
 
 pub returns-then-k-gt-MOST_NODES : goal.returns-then-k-gt-MOST_NODES

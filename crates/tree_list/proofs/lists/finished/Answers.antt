@@ -1,10 +1,6 @@
 -- `tree_list::lists::finished` meets its contract. Assumes nothing.
 use Rattle.tree_plan_model.specs.Lists.{list_end}
 use Rattle.tree_list.proofs.Takes.{some-ended}
-use borrow.Author.Rules.{rules}
-use Rattle.tree_list.proofs.lists.finished.Reads as reads
-use Rattle.tree_list.proofs.lists.finished.Lts as lts
-use Rattle.tree_list.proofs.lists.broken.Reads as broken-reads
 use Rattle.tree_list.proofs.lists.finished.Goals as goal
 
 pub returns-then-k-eq0 : goal.returns-then-k-eq0

@@ -1,7 +1,5 @@
 -- `tree_list::lists::parent_right` meets its contract. Assumes nothing.
 use Rattle.tree_list.proofs.Rules.{parent-of-root, parent-some, parent-none}
-use Rattle.tree_list.proofs.lists.parent_right.Reads as reads
-use Rattle.tree_list.proofs.lists.parent_right.Lts as lts
 use Rattle.tree_list.proofs.lists.parent_right.Goals as goal
 
 pub returns-then-k-eq1 : goal.returns-then-k-eq1

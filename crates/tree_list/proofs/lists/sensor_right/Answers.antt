@@ -1,7 +1,5 @@
 -- `tree_list::lists::sensor_right` meets its contract. Assumes nothing.
 use Rattle.tree_list.proofs.Rules.{sensor-silent, sensor-bursty, sensor-idle, sensor-some}
-use Rattle.tree_list.proofs.lists.sensor_right.Reads as reads
-use Rattle.tree_list.proofs.lists.sensor_right.Lts as lts
 use Rattle.tree_list.proofs.lists.sensor_right.Goals as goal
 
 pub returns-then-burst-eq0 : goal.returns-then-burst-eq0

@@ -2,7 +2,6 @@
 use mathlib.Core.Path.{sym, ◌∙◌}
 use native.Mathlib.Omega.{arith}
 use Rattle.tree_list.proofs.Takes.{unread, wrong, not_taken, taken, small}
-use borrow.Author.Rules.{rules}
 use Rattle.tree_list.proofs.lists.take_node.Goals as goal
 
 pub returns-in_default : goal.returns-in_default

@@ -1,14 +1,10 @@
 -- What the loops of `tree_list::shape::is_router` keep. Assumes nothing.
-use mathlib.Core.Path.{◌≡◌, refl}
-use mathlib.Core.Bool.{Bool, false}
-use Prim.Native.Nat.{ℕ, suc, ◌+◌, ◌-◌, ◌≤◌}
-use native.Mathlib.Omega.{arith}
+use mathlib.Core.Path.{◌≡◌}
+use mathlib.Core.Bool.{false}
+use Prim.Native.Nat.{◌-◌, ◌≤◌}
 use lib.Dec.{eqb}
 use lib.ListN.{length, get_or}
-use borrow.Author.Tests.{eq-eqb, ne_eqb}
 use Rattle.tree_model.specs.Tree.{some_to}
-use Rattle.tree_model.proofs.Shapes.{some-hit, some-missed, root-is-router, has-children, no-children}
-use Rattle.tree_plan_model.specs.Inner.{shape}
 use Rattle.tree_list.proofs.shape.is_router.Given as goal
 
 abbrev pub invariant-loop-w : goal.invariant-loop-w

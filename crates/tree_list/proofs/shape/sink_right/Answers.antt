@@ -2,7 +2,6 @@
 use native.Mathlib.Omega.{arith}
 use Rattle.tree_model.proofs.Shapes.{sink-low, sink-known, sink-high}
 use Rattle.tree_plan_model.specs.Inner.{shape}
-use borrow.Author.Rules.{rules}
 use Rattle.tree_list.proofs.shape.sink_right.Goals as goal
 
 pub returns-then-sink-lt1 : goal.returns-then-sink-lt1
