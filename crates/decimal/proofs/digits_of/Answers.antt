@@ -1,10 +1,5 @@
 -- `decimal::digits_of` meets its contract. Assumes nothing.
-use mathlib.Core.Path.{◌≡◌}
-use Prim.Native.Nat.{◌+◌}
 use native.Mathlib.Omega.{arith}
-use borrow.Author.Rules.{rules}
-use lib.ListN.{length}
-use Rattle.decimal_model.specs.Decimal.{decimal}
 use Rattle.decimal_model.proofs.Writing.{at-most-twenty}
 use Rattle.decimal_model.proofs.Putting.{length_more}
 use Rattle.decimal.proofs.digits_of.Goals as goal

@@ -1,11 +1,8 @@
 -- What the loops of `decimal::digits_of` keep. Assumes nothing.
 use mathlib.Core.Path.{◌≡◌}
 use Prim.Native.Nat.{◌+◌}
-use native.Mathlib.Omega.{arith}
 use lib.ListN.{length}
 use Rattle.decimal_model.specs.Decimal.{decimal}
-use Rattle.decimal_model.proofs.Writing.{at-most-twenty}
-use Rattle.decimal_model.proofs.Putting.{length_more}
 use Rattle.decimal.proofs.digits_of.Given as goal
 
 abbrev pub invariant-loop-rest : goal.invariant-loop-rest

@@ -4,7 +4,6 @@ use native.Mathlib.Omega.{arith}
 use borrow.Author.Tests.{le-leb, lt-leb}
 use Rattle.decimal_model.specs.Number.{shaped}
 use Rattle.decimal_model.proofs.Spelling.{shaped-one, shaped-several}
-use borrow.Author.Rules.{rules}
 use Rattle.decimal.proofs.is_shaped.Goals as goal
 
 pub returns-then-s-lt1 : goal.returns-then-s-lt1

@@ -1,6 +1,5 @@
 -- `decimal::put_few` meets its contract. Assumes nothing.
 use Rattle.decimal_model.proofs.Putting.{put_one, put_two, put_three, put_four}
-use borrow.Author.Rules.{rules}
 use Rattle.decimal.proofs.put_few.Goals as goal
 
 pub returns-then-rest-lt10 : goal.returns-then-rest-lt10

@@ -1,6 +1,5 @@
 -- `decimal::put_four` meets its contract. Assumes nothing.
 use Rattle.decimal_model.proofs.Putting.{put-digits}
-use borrow.Author.Rules.{rules}
 use Rattle.decimal.proofs.put_four.Goals as goal
 
 pub returns : goal.returns

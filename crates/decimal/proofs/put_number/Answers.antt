@@ -1,11 +1,6 @@
 -- `decimal::put_number` meets its contract. Assumes nothing.
-use mathlib.Core.Path.{◌≡◌, refl, ap, ◌∙◌}
-use Prim.Native.Nat.{◌≤◌}
+use mathlib.Core.Path.{refl, ◌∙◌}
 use native.Mathlib.Omega.{arith}
-use lib.ListN.{length}
-use lib.Seq.{sets, length-sets}
-use borrow.Author.Rules.{rules}
-use Rattle.decimal_model.specs.Decimal.{decimal}
 use Rattle.decimal_model.proofs.Writing.{at-most-twenty}
 use Rattle.decimal_model.proofs.Putting.{length-one, length_more, put_one, put-more}
 use Rattle.decimal.proofs.put_number.Goals as goal

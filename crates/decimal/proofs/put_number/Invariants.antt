@@ -1,12 +1,9 @@
 -- What the loops of `decimal::put_number` keep. Assumes nothing.
-use mathlib.Core.Path.{◌≡◌, refl, ap, ◌∙◌}
+use mathlib.Core.Path.{◌≡◌}
 use Prim.Native.Nat.{◌≤◌}
-use native.Mathlib.Omega.{arith}
 use lib.ListN.{length}
-use lib.Seq.{sets, length-sets}
+use lib.Seq.{sets}
 use Rattle.decimal_model.specs.Decimal.{decimal}
-use Rattle.decimal_model.proofs.Writing.{at-most-twenty}
-use Rattle.decimal_model.proofs.Putting.{length-one, length_more, put_one, put-more}
 use Rattle.decimal.proofs.put_number.Given as goal
 
 abbrev pub invariant-loop-rest : goal.invariant-loop-rest

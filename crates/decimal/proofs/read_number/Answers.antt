@@ -1,12 +1,10 @@
 -- `decimal::read_number` meets its contract. Assumes nothing.
-use mathlib.Core.Path.{◌≡◌, refl, sym, ◌∙◌}
-use Prim.Native.Nat.{◌-◌, ◌^◌, ◌≤◌, ◌<◌}
+use mathlib.Core.Path.{refl, sym, ◌∙◌}
+use Prim.Native.Nat.{◌-◌}
 use native.Mathlib.Omega.{arith}
-use borrow.Author.Rules.{rules}
-use borrow.Author.Tests.{not-true, not-false}
-use lib.ListN.{length, get_or, drop, drop_of_length-le}
-use Rattle.decimal_model.specs.Number.{digits, spelled_after, spelled}
-use Rattle.decimal_model.proofs.Spelling.{digit-range, digits_step, spelled_step, ten-more, ten-small, shaped-length, unshaped, undigit, spells}
+use lib.ListN.{get_or, drop_of_length-le}
+use Rattle.decimal_model.specs.Number.{digits, spelled_after}
+use Rattle.decimal_model.proofs.Spelling.{digit-range, digits_step, spelled_step, ten-more, shaped-length, unshaped, undigit, spells}
 use Rattle.decimal.proofs.read_number.Goals as goal
 
 pub returns-then-not-is_shaped : goal.returns-then-not-is_shaped

@@ -1,11 +1,8 @@
 -- What the loops of `decimal::read_number` keep. Assumes nothing.
-use mathlib.Core.Path.{◌≡◌, refl, sym, ◌∙◌}
+use mathlib.Core.Path.{◌≡◌}
 use Prim.Native.Nat.{◌-◌, ◌^◌, ◌≤◌, ◌<◌}
-use native.Mathlib.Omega.{arith}
-use borrow.Author.Tests.{not-true, not-false}
-use lib.ListN.{length, get_or, drop, drop_of_length-le}
+use lib.ListN.{length, drop}
 use Rattle.decimal_model.specs.Number.{digits, spelled_after, spelled}
-use Rattle.decimal_model.proofs.Spelling.{digit-range, digits_step, spelled_step, ten-more, ten-small, shaped-length, unshaped, undigit, spells}
 use Rattle.decimal.proofs.read_number.Given as goal
 
 abbrev pub invariant-loop-i : goal.invariant-loop-i
