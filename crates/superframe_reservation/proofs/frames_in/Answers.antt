@@ -1,10 +1,10 @@
 -- `superframe_reservation::frames_in` meets its contract. Assumes nothing.
 use Rattle.superframe_model.proofs.ReservationLaws.{frames-none}
-use Rattle.measure.proofs.Limits.{within-fits, within-past}
+use Rattle.measure.proofs.Limits.{within-fits}
 use Rattle.superframe_model.specs.Reservation.{frames_in}
 use mathlib.Core.Path.{sym, ◌∙◌}
 use Prim.Native.Nat.{◌*◌}
-use borrow.Author.Tests.{ltb-true, ltb-false}
+use borrow.Author.Tests.{ltb-true}
 use borrow.Author.Rules.{rules}
 use Rattle.superframe_reservation.proofs.frames_in.Goals as goal
 

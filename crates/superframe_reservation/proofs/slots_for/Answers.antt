@@ -1,13 +1,11 @@
 -- `superframe_reservation::slots_for` meets its contract. Assumes nothing.
-use native.Mathlib.Omega.{arith}
-use Prim.Native.Nat.{◌≤◌, ◌*◌, ◌^◌}
+use Prim.Native.Nat.{◌*◌}
 use Rattle.measure.specs.Measures.{slots}
 use mathlib.Core.Path.{◌≡◌, ap, ◌∙◌, sym}
 use Rattle.superframe_model.proofs.ReservationLaws.{slots-smallest}
-use Rattle.measure.proofs.Limits.{within-fits, within-past}
+use Rattle.measure.proofs.Limits.{within-fits}
 use Rattle.superframe_model.specs.Reservation.{slots_for}
-use borrow.Author.Tests.{ltb-true, ltb-false}
-use borrow.Author.Rules.{rules}
+use borrow.Author.Tests.{ltb-true}
 use Rattle.superframe_reservation.proofs.slots_for.Goals as goal
 
 pub returns-then-product_fits-clause-value : goal.returns-then-product_fits-clause-value
