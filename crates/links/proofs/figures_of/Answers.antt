@@ -1,6 +1,5 @@
 -- `links::figures_of` meets its contract. Assumes nothing.
 use Rattle.links.proofs.Making.{figures-made}
-use borrow.Author.Rules.{rules}
 use Rattle.links.proofs.figures_of.Goals as goal
 
 pub returns : goal.returns

@@ -1,6 +1,5 @@
 -- `links::reservation_for` meets its contract. Assumes nothing.
 use Rattle.links.proofs.Making.{reservation-made}
-use borrow.Author.Rules.{rules}
 use Rattle.links.proofs.reservation_for.Goals as goal
 
 pub returns : goal.returns

@@ -1,7 +1,6 @@
 -- `settings::agree` meets its contract. Assumes nothing.
 use mathlib.Core.Path.{sym, ◌∙◌}
 use mathlib.Core.List.{◌++◌}
-use borrow.Author.Rules.{rules}
 use Rattle.refusals.specs.declared.Verdict.TheVariants.{Kept, Broken}
 use Rattle.refusals.proofs.Answering.{first-part-answers, second-part-answers}
 use Rattle.settings_model.specs.Checks.{radio_of, orders_at_odds, shape_at_odds, frame_at_odds, at_odds}

@@ -1,6 +1,5 @@
 -- `settings::check` meets its contract. Assumes nothing.
 use mathlib.Core.Path.{sym, ◌∙◌}
-use borrow.Author.Rules.{rules}
 use Rattle.refusals.specs.declared.Verdict.TheVariants.{Kept, Broken}
 use Rattle.refusals.proofs.Answering.{first-part-answers, second-part-answers}
 use Rattle.settings_model.specs.Checks.{values_of, ranged, at_odds, checks}

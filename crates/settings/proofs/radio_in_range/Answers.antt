@@ -1,7 +1,6 @@
 -- `settings::radio_in_range` meets its contract. Assumes nothing.
 use mathlib.Core.Path.{sym, ◌∙◌}
 use mathlib.Core.List.{[], ◌∷◌}
-use borrow.Author.Rules.{rules}
 use Rattle.refusals.specs.declared.Verdict.TheVariants.{Kept, Broken}
 use Rattle.refusals.proofs.Answering.{first-part-answers, second-part-answers}
 use Rattle.settings_model.specs.Checks.{ranged, radio_ranged}

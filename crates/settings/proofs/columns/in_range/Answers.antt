@@ -1,14 +1,10 @@
 -- `settings::columns::in_range` meets its contract. Assumes nothing.
-use mathlib.Core.Path.{◌≡◌, refl, sym, ◌∙◌}
-use Prim.Native.Nat.{◌+◌, ◌-◌, ◌≤◌}
+use mathlib.Core.Path.{◌≡◌, sym, ◌∙◌}
+use Prim.Native.Nat.{◌+◌}
 use native.Mathlib.Numerals.{add-one}
-use native.Mathlib.Nat.{add-zero, add-suc}
+use native.Mathlib.Nat.{add-suc}
 use native.Mathlib.Omega.{arith}
-use lib.ListN.{length, drop}
-use borrow.Author.Rules.{rules}
-use borrow.Author.Tests.{not-true, not-false}
-use Rattle.refusals.proofs.Answering.{verdict}
-use Rattle.settings_model.specs.Checks.{ranged}
+use lib.ListN.{length}
 use Rattle.settings_model.proofs.Ranging.{ranged-out, ranged-in, ranged-all}
 use Rattle.settings.proofs.columns.in_range.Goals as goal
 

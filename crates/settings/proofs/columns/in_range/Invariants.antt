@@ -1,14 +1,9 @@
 -- What the loops of `settings::columns::in_range` keep. Assumes nothing.
-use mathlib.Core.Path.{◌≡◌, refl, sym, ◌∙◌}
+use mathlib.Core.Path.{◌≡◌}
 use Prim.Native.Nat.{◌+◌, ◌-◌, ◌≤◌}
-use native.Mathlib.Numerals.{add-one}
-use native.Mathlib.Nat.{add-zero, add-suc}
-use native.Mathlib.Omega.{arith}
 use lib.ListN.{length, drop}
-use borrow.Author.Tests.{not-true, not-false}
 use Rattle.refusals.proofs.Answering.{verdict}
 use Rattle.settings_model.specs.Checks.{ranged}
-use Rattle.settings_model.proofs.Ranging.{ranged-out, ranged-in, ranged-all}
 use Rattle.settings.proofs.columns.in_range.Given as goal
 
 abbrev pub invariant-loop-k : goal.invariant-loop-k

@@ -1,6 +1,5 @@
 -- `settings::odds::frame_agrees` meets its contract. Assumes nothing.
 use mathlib.Core.Path.{sym, ◌∙◌}
-use borrow.Author.Rules.{rules}
 use Rattle.refusals.proofs.Answering.{passed_over, broken-answers, none_left}
 use Rattle.settings_model.specs.Checks.{frame_at_odds}
 use Rattle.settings.proofs.odds.frame_agrees.Goals as goal

@@ -1,7 +1,6 @@
 -- `settings::odds::orders_agree` meets its contract. Assumes nothing.
 use mathlib.Core.Path.{sym, ◌∙◌}
 use native.Mathlib.Omega.{arith}
-use borrow.Author.Rules.{rules}
 use borrow.Author.Tests.{lt-ltb, le-ltb}
 use Rattle.refusals.proofs.Answering.{passed_over, broken-answers, none_left}
 use Rattle.settings_model.specs.Checks.{orders_at_odds}

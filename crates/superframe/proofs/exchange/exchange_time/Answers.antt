@@ -5,7 +5,6 @@ use native.Mathlib.Omega.{arith}
 use mathlib.Core.Bool.{true, false}
 use Rattle.superframe_model.specs.ExchangeTable.{InOrder, entry_index}
 use Rattle.superframe_model.proofs.ExchangeLaws.{exchange-for-short, exchange-for-long, exchange-for-octets}
-use borrow.Author.Rules.{rules}
 use Rattle.superframe.proofs.exchange.exchange_time.Goals as goal
 
 pub returns-then-octets-lt6 : goal.returns-then-octets-lt6

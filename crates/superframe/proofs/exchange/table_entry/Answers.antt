@@ -1,8 +1,7 @@
 -- `superframe::exchange::table_entry` meets its contract. Assumes nothing.
 use Rattle.superframe_model.specs.Exchange.{air_time, acknowledgement, spacing, exchange}
 use Rattle.superframe_model.specs.ExchangeTable.{entries_from, exchange_table}
-use Rattle.superframe_model.proofs.TableLaws.{entry-is, entry-none, in_order, table_fits}
-use borrow.Author.Rules.{rules}
+use Rattle.superframe_model.proofs.TableLaws.{entry-is, entry-none, in_order}
 use Rattle.superframe.proofs.exchange.table_entry.Goals as goal
 
 pub returns-then-index-lt244-clause-value : goal.returns-then-index-lt244-clause-value

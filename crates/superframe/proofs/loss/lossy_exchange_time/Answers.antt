@@ -1,7 +1,6 @@
 -- `superframe::loss::lossy_exchange_time` meets its contract. Assumes nothing.
 use native.Mathlib.Omega.{arith}
 use Rattle.superframe_model.proofs.LossLaws.{answered-most, failures-most, lossy-made}
-use borrow.Author.Rules.{rules}
 use Rattle.superframe.proofs.loss.lossy_exchange_time.Goals as goal
 
 pub overflow_add-result : goal.overflow_add-result

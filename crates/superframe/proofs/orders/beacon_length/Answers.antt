@@ -2,7 +2,6 @@
 use mathlib.Core.Path.{◌≡◌}
 use native.Mathlib.Omega.{arith}
 use Rattle.superframe_model.proofs.OrderLaws.{beacon-none, beacon-of}
-use borrow.Author.Rules.{rules}
 use Rattle.superframe.proofs.orders.beacon_length.Goals as goal
 
 pub returns-then-g-eq0 : goal.returns-then-g-eq0

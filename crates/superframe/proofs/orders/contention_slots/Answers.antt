@@ -1,12 +1,11 @@
 -- `superframe::orders::contention_slots` meets its contract. Assumes nothing.
 use mathlib.Core.Path.{◌≡◌, sym, ap, ap₂, ◌∙◌}
-use Prim.Native.Nat.{◌+◌, ◌<◌, ◌≤◌, ◌^◌}
+use Prim.Native.Nat.{◌+◌, ◌<◌, ◌^◌}
 use native.Mathlib.Omega.{arith}
 use Rattle.measure.specs.declared.Symbols.{Symbols}
 use Rattle.measure.specs.Measures.{slots, rounded_up}
-use Rattle.measure.proofs.Limits.{within-fits, within-past}
+use Rattle.measure.proofs.Limits.{within-fits}
 use Rattle.superframe_model.specs.Orders.{beacon_length, contention}
-use borrow.Author.Rules.{rules}
 use Rattle.superframe.proofs.orders.contention_slots.Goals as goal
 
 pub returns-then-beacon : goal.returns-then-beacon

@@ -7,7 +7,6 @@ use Rattle.measure.specs.Measures.{slots, within, largest}
 use Rattle.measure.proofs.Limits.{within-fits, within-past}
 use Rattle.superframe_model.specs.Orders.{beacon_length, contention, reservable}
 use Rattle.superframe_model.proofs.OrderLaws.{reservable-past}
-use borrow.Author.Rules.{rules}
 use Rattle.superframe.proofs.orders.reservable_slots.Goals as goal
 
 -- what is left of 16 slots, also where the contention period is not counted

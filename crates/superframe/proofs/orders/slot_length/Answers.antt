@@ -4,7 +4,6 @@ use Rattle.measure.specs.Measures.{symbols}
 use native.Mathlib.Omega.{arith}
 use Rattle.superframe_model.proofs.OrderLaws.{shifted}
 use Rattle.superframe_model.specs.Orders.{slot}
-use borrow.Author.Rules.{rules}
 use Rattle.superframe.proofs.orders.slot_length.Goals as goal
 
 pub returns : goal.returns

@@ -4,7 +4,6 @@ use Rattle.measure.specs.Measures.{symbols}
 use native.Mathlib.Omega.{arith}
 use Rattle.superframe_model.proofs.OrderLaws.{shifted}
 use Rattle.superframe_model.specs.Orders.{superframe}
-use borrow.Author.Rules.{rules}
 use Rattle.superframe.proofs.orders.superframe_duration.Goals as goal
 
 pub returns : goal.returns
