@@ -27,3 +27,62 @@ pub fn read_full<R: Read>(reader: &mut R, space: &mut [u8]) -> io::Result<usize>
     }
     Ok(done)
 }
+
+#[cfg(test)]
+mod tests {
+    use super::*;
+    use std::io::ErrorKind;
+    use std::test::Fail;
+
+    // Gives one `a` at a time, so many of them, and then fails or ends.
+    #[derive(Drop)]
+    struct Slow {
+        left: u8,
+        fails: bool,
+    }
+
+    impl Read for Slow {
+        fn read(&mut self, buf: &mut [u8]) -> io::Result<usize> {
+            if self.left == 0 && self.fails {
+                return Err(io::Error::from(ErrorKind::TimedOut));
+            }
+            if self.left == 0 || buf.is_empty() {
+                return Ok(0);
+            }
+            self.left -= 1;
+            buf[0] = b'a';
+            Ok(1)
+        }
+    }
+
+    fn one_at_a_time(left: u8, fails: bool) -> Slow {
+        Slow { left, fails }
+    }
+
+    #[test]
+    fn reads_to_the_end(rt: HostRuntime) -> Result<(), Fail> {
+        let mut space = [0u8; 4];
+        let n = read_full(&mut one_at_a_time(3, false), &mut space)?;
+        assert_eq!(rt; n, 3);
+        assert_eq!(rt; space.as_slice(), b"aaa\0".as_slice());
+        Ok(())
+    }
+
+    #[test]
+    fn leaves_what_has_no_room(rt: HostRuntime) -> Result<(), Fail> {
+        let mut input = one_at_a_time(6, true);
+        let mut space = [0u8; 4];
+        let n = read_full(&mut input, &mut space)?;
+        assert_eq!(rt; n, 4);
+        assert_eq!(rt; space.as_slice(), b"aaaa".as_slice());
+        assert_eq!(rt; input.left, 2);
+        Ok(())
+    }
+
+    #[test]
+    fn answers_the_error_of_a_read(rt: HostRuntime) {
+        let mut space = [0u8; 4];
+        let read = read_full(&mut one_at_a_time(3, true), &mut space);
+        assert!(rt; matches!(read.map_err(|e| e.kind()), Err(ErrorKind::TimedOut)));
+    }
+}
