@@ -2,31 +2,30 @@
 // printed is decided in `row_program`; here it is read and written alone.
 #![tactic(auto)]
 
-use libc::{STDIN_FILENO, STDOUT_FILENO};
+use input::read_full;
 use report::LONGEST;
 use row_program::{begin, next_piece};
 use row_program_model::Style;
+use std::io;
 
-fn main() {
+fn main(rt: HostRuntime) -> io::Result<()> {
     // One byte more than an input may have: a longer one shows.
     let mut space = [0u8; 65537];
-    let n = io::read_full(STDIN_FILENO, &mut space);
-    print(&space[..n]);
+    let n = read_full(&mut rt.stdin(), &mut space)?;
+    print(&rt, &space[..n])
 }
 
-// Writes the output of an input, piece behind piece. A piece that cannot be written whole is the last.
-fn print(input: &[u8]) {
+// Writes the output of an input, piece behind piece. A piece that cannot be written whole is the last, and why is answered.
+fn print(rt: &impl Print, input: &[u8]) -> io::Result<()> {
     let mut out = [0u8; LONGEST];
     let mut progress = begin();
     loop {
         let piece = next_piece(Style::Plans, input, progress, &mut out);
         if !piece.more {
-            return;
+            return Ok(());
         }
         let n = piece.length;
-        if !io::write_all(STDOUT_FILENO, &out[..n]) {
-            return;
-        }
+        rt.write_all(&out[..n])?;
         progress = piece.next;
     }
 }

@@ -4,51 +4,58 @@
 
 use decimal::read_number;
 use decimal_model::Number;
-use libc::{STDIN_FILENO, STDOUT_FILENO};
+use input::read_full;
 use report::LONGEST_TREE;
+use std::env::FillError;
+use std::io;
+use std::rt::Env;
 use tree_program::put_tree_output;
 use tree_program_model::Arguments;
 
-fn main() {
+fn main(rt: HostRuntime) -> io::Result<()> {
     // One byte more than an input may have: a longer one shows.
     let mut space = [0u8; 65537];
-    let n = io::read_full(STDIN_FILENO, &mut space);
-    print(arguments(), &space[..n]);
+    let n = read_full(&mut rt.stdin(), &mut space)?;
+    print(&rt, arguments(&rt), &space[..n])
 }
 
-// Writes what is printed for an input.
-fn print(arguments: Arguments, input: &[u8]) {
+// Writes what is printed for an input, and answers why where it cannot be written whole.
+fn print(rt: &impl Print, arguments: Arguments, input: &[u8]) -> io::Result<()> {
     let mut out = [0u8; LONGEST_TREE];
     let n = put_tree_output(arguments, input, &mut out);
-    io::write_all(STDOUT_FILENO, &out[..n]);
+    rt.write_all(&out[..n])
 }
 
 // The arguments behind the program's name.
-fn arguments() -> Arguments {
+fn arguments(rt: &impl Env) -> Arguments {
     Arguments {
-        bo: argument(1),
-        so: argument(2),
-        head: argument(3),
-        payload: argument(4),
-        ack: argument(5),
-        sink: argument(6),
-        loss: argument(7),
-        count: argument_count(),
+        bo: argument(rt, 1),
+        so: argument(rt, 2),
+        head: argument(rt, 3),
+        payload: argument(rt, 4),
+        ack: argument(rt, 5),
+        sink: argument(rt, 6),
+        loss: argument(rt, 7),
+        count: argument_count(rt),
     }
 }
 
 // How many arguments stand behind the program's name.
-fn argument_count() -> usize {
-    let n = os::arg_count();
-    if n < 1 {
-        return 0;
+fn argument_count(rt: &impl Env) -> usize {
+    let mut space = [0u8; 8];
+    for i in 1..usize::MAX {
+        if let Err(FillError::NotPresent) = rt.arg(i, &mut space) {
+            return i - 1;
+        }
     }
-    n - 1
+    usize::MAX - 1
 }
 
-// The number that an argument spells. One that is missing, or longer than any number, is as an empty one.
-fn argument(i: usize) -> Number {
+// The number that an argument spells, which may be any bytes. One that is missing, or longer than any number, is as an empty one.
+fn argument(rt: &impl Env, i: usize) -> Number {
     let mut space = [0u8; 8];
-    let n = os::arg(i, &mut space);
-    read_number(&space[..n])
+    match rt.arg(i, &mut space) {
+        Ok(n) => read_number(&space[..n]),
+        Err(_) => read_number(b""),
+    }
 }

@@ -4,26 +4,27 @@
 
 ghost use Rattle.std.specs.Prelude.{◌<◌};
 
-use libc::STDOUT_FILENO;
+use std::io;
 use superframe::exchange::table_entry;
 
-fn main() {
+fn main(rt: HostRuntime) -> io::Result<()> {
     for pair in 0..122 {
-        line(pair);
+        line(&rt, pair)?;
     }
+    Ok(())
 }
 
 // The two entries of 6 octets and as many more.
-fn line(pair: u64)
+fn line(rt: &impl Print, pair: u64) -> io::Result<()>
     requires { pair < 122 }
 {
-    io::print_decimal(STDOUT_FILENO, 6 + pair);
-    number(table_entry(2 * pair).0);
-    number(table_entry(2 * pair + 1).0);
-    io::write_all(STDOUT_FILENO, b"\n");
+    rt.print(6 + pair)?;
+    number(rt, table_entry(2 * pair).0)?;
+    number(rt, table_entry(2 * pair + 1).0)?;
+    rt.write_all(b"\n")
 }
 
-fn number(n: u64) {
-    io::write_all(STDOUT_FILENO, b" ");
-    io::print_decimal(STDOUT_FILENO, n);
+fn number(rt: &impl Print, n: u64) -> io::Result<()> {
+    rt.write_all(b" ")?;
+    rt.print(n)
 }

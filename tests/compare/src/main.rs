@@ -55,9 +55,9 @@ fn read_arguments() -> Option<Arguments> {
     (given.len() <= 5).then_some(arguments)
 }
 
-/// The program of this name in target/bin of the repository or, if it is not there, of the current directory.
+/// The program of this name in its crate's out/ of the repository or, if it is not there, of the current directory.
 fn default_program(name: &str) -> PathBuf {
-    let built = Path::new("target/bin").join(name);
+    let built = Path::new("crates").join(name).join("out").join(name);
     let beside = Path::new(env!("CARGO_MANIFEST_DIR")).join("../..").join(&built);
     if beside.exists() {
         beside

@@ -1,0 +1,9 @@
+-- `test_rows::rows` ends. Assumes nothing.
+use Rattle.std.proofs.Common.{arith, sym}
+use Rattle.lines.proofs.LawsHold.{found-advances}
+use Rattle.test_rows.proofs.rows.Goals as goal
+
+pub loop-start-smaller : goal.loop-start-smaller
+loop-start-smaller g c =
+    let a = found-advances c.args.text.now c.loop-start.cursor.at _ _ _ (sym c.in-Found.ensures) in
+    omega (arith, a.forward, a.next_within)
