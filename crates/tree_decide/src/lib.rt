@@ -15,7 +15,7 @@ ghost use Rattle.plan_model.specs.Plans.{answer, written};
 ghost use Rattle.node_table_model.specs.NodeRows.{tree_table};
 ghost use Rattle.tree_plan_model.specs.Hops.{hops_of};
 
-use crate::lines::put_lines;
+use crate::node_lines::put_lines;
 use plan_common::{refused_plan, timing_of};
 use plan_model::Plan;
 use refusals::Verdict;
@@ -23,7 +23,7 @@ use settings_model::Radio;
 use tree_hops::hops_of;
 
 mod figures; // of a node
-mod lines; // the lines of the plan
+mod node_lines; // the lines of the plan
 
 // Decides on the tree of a text with any settings and any sink: its verdict, and, as far as there is room, ten numbers for each node at the
 // front of a lent table and three beside. Both are left as they were where the tree is refused. Where it is planned, demand 3 holds of the

@@ -9,8 +9,8 @@ use Rattle.tree_plan_model.specs.Inner.{load_in}
 use Rattle.tree_plan_model.proofs.Noting.{load-noted}
 use Rattle.tree_decide.proofs.Lining.{line_made}
 use borrow.Author.Rules.{rules}
-use Rattle.tree_decide.proofs.lines.line_of.Statement.{statement}
-use Rattle.tree_decide.proofs.lines.line_of.Tie as tie
+use Rattle.tree_decide.proofs.node_lines.line_of.Statement.{statement}
+use Rattle.tree_decide.proofs.node_lines.line_of.Tie as tie
 
 -- the load that is read is the node's
 load-at-node : (c : tie.After-load-at) → c.load_at.result ≡ load_in c.before.before.args.notes.now c.before.before.args.v

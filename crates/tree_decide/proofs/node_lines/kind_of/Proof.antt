@@ -7,8 +7,8 @@ use Rattle.tree_plan_model.proofs.Noting.{towards-noted}
 use Rattle.tree_children.proofs.Linking.{router-in}
 use Rattle.tree_decide.proofs.Lining.{kind-sink, kind-down, kind-up, kind-end}
 use borrow.Author.Rules.{rules}
-use Rattle.tree_decide.proofs.lines.kind_of.Statement.{statement}
-use Rattle.tree_decide.proofs.lines.kind_of.Tie as tie
+use Rattle.tree_decide.proofs.node_lines.kind_of.Statement.{statement}
+use Rattle.tree_decide.proofs.node_lines.kind_of.Tie as tie
 
 returns : tie.Need-returns
 returns c = let x = c.before.before.args in let q = c.before.before.requires in kind-sink x.parents.now x.notes.now x.sink q.0 x.v q.1.1.1.0 q.1.1.1.1 c.if1.true

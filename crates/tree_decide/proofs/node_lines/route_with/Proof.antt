@@ -1,7 +1,7 @@
 -- `tree_decide::lines::route_with` meets its contract. Assumes nothing.
 use Rattle.tree_decide.proofs.Lining.{route-none, route-some}
-use Rattle.tree_decide.proofs.lines.route_with.Statement.{statement}
-use Rattle.tree_decide.proofs.lines.route_with.Tie as tie
+use Rattle.tree_decide.proofs.node_lines.route_with.Statement.{statement}
+use Rattle.tree_decide.proofs.node_lines.route_with.Tie as tie
 
 returns : tie.Need-returns
 returns c = route-none c.before.before.args.load c.before.before.args.way c.if1.true

@@ -8,8 +8,8 @@ use Rattle.node_table_model.specs.NodeRows.{tree_table}
 use Rattle.tree_plan_model.specs.Tables.{lines_in}
 use Rattle.tree_decide.proofs.Rowing.{lines_none, lines-put}
 use borrow.Author.Rules.{rules}
-use Rattle.tree_decide.proofs.lines.put_lines.Statement.{statement}
-use Rattle.tree_decide.proofs.lines.put_lines.Tie as tie
+use Rattle.tree_decide.proofs.node_lines.put_lines.Statement.{statement}
+use Rattle.tree_decide.proofs.node_lines.put_lines.Tie as tie
 
 abbrev invariant-loop : tie.invariant-loop
 invariant-loop t parents kin notes depths ways sink table₀ v₀ table v = (v ≤ length parents - 1) × (length table ≡ length table₀) × (table ≡ sets table₀ 0 (tree_table (lines_in t parents notes sink v)))
