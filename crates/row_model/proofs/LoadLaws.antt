@@ -2,7 +2,7 @@
 use mathlib.Core.Path.{◌≡◌, refl}
 use Prim.Native.Nat.{ℕ, suc, ◌+◌, ◌-◌, ◌*◌, ◌≤◌, ◌<◌}
 use native.Mathlib.Omega.{arith}
-use Rattle.measure.specs.Measures.{frames, burst}
+use Rattle.measure.specs.Measures.{frames}
 use Rattle.links.specs.declared.Load.{Load}
 use Rattle.links.specs.Link.{plus, times}
 use Rattle.measure.proofs.Conversions.{burst-is}

@@ -5,7 +5,6 @@ use mathlib.Core.List.{◌∷◌}
 use Prim.Native.Nat.{ℕ, zero, suc, ◌+◌, ◌*◌, ◌≤◌, ◌<◌}
 use native.Mathlib.Omega.{arith}
 use lib.Dec.{eqb, lit<, lit≤}
-use Rattle.measure.specs.Measures.{arrivals}
 use Rattle.network.specs.Counting.{total, bit, some_below, keep, none, each}
 use Rattle.network.specs.Model.{Network, queue}
 use Rattle.network.specs.Readings.{made}
@@ -15,10 +14,9 @@ use Rattle.network.specs.Oracle.{is_start, idle, behind, take_oldest, serve, beg
 use Rattle.network.specs.Examples.{reading, first, as_numbers, received, lengths_at, soon_from}
 use Rattle.network.proofs.Sums.{total_mono}
 use Rattle.network.proofs.Oracles.{every-choice-is-a-run}
-use Rattle.row_model.specs.Checks.{routers}
 use Rattle.row_model.specs.Lines.{lines}
 use Rattle.row_model.specs.Tree.{is_child, child_routers, end_nodes, Within, ancestor, sink_below, towards, line_of}
-use Rattle.row_model.specs.Promise.{network_of, Windows, Readings, sink_line, senses, site_of, printed_of}
+use Rattle.row_model.specs.Promise.{Windows, Readings, sink_line, senses, site_of, printed_of}
 use Rattle.row_model.specs.Witness.{lossy_settings, settings, row, tree, offsets, network, readings, Witnessed, small_settings, small_row, small_tree, small_network, full_readings, Filled, lossy_row, lossy_network, lossy_readings, Lossy, deep_row, full_slots, tight_row, OnThePath, all_slots, all_superframes, JustMet, long_beacon, own_beacons, OwnCounts}
 use Rattle.plan_model.specs.Lines.{columns}
 use Rattle.row_model.proofs.Computing.{plans}

@@ -21,7 +21,6 @@ use Rattle.row_model.proofs.LoadLaws.{sink-first, sink-step}
 use Rattle.row_model.proofs.LoadBounds.{upward-bounded, sink-below-bounded}
 use Rattle.row_plan_model.specs.declared.Link.{Link}
 use Rattle.row_plan_model.specs.Inner.{coming, link_of, link_up}
-use Rattle.links.specs.Link.{no_load}
 use Rattle.row_plan_model.specs.Pages.{Page, pushed, filled}
 use Rattle.row_plan_model.proofs.Made.{fits}
 

@@ -10,7 +10,7 @@ use Rattle.measure.specs.declared.Symbols.{Symbols}
 use Rattle.measure.specs.Measures.{up_to_64}
 use Rattle.links.specs.declared.Load.{Load}
 use Rattle.links.specs.declared.Figures.{Figures}
-use Rattle.links.specs.Link.{after, reservation_of, delay, figures_by, figures_of}
+use Rattle.links.specs.Link.{after, reservation_of, figures_by, figures_of}
 use Rattle.links.specs.Answers.{figures_answered, Moderate}
 use Rattle.links.proofs.Making.{figures-fit}
 use Rattle.links.proofs.LinkLaws.{delay-bound}

@@ -1,7 +1,6 @@
 -- `line_table::code_of` meets its contract. Assumes nothing.
 use mathlib.Core.Path.{refl}
 use Rattle.line_table_model.specs.Rows.{code_of}
-use borrow.Author.Rules.{rules}
 use Rattle.line_table.proofs.code_of.Goals as goal
 
 pub returns-in-EndNode : goal.returns-in-EndNode

@@ -1,7 +1,6 @@
 -- `line_table::line_at` meets its contract. Assumes nothing.
 use mathlib.Core.Path.{◌∙◌}
 use Rattle.line_table_model.proofs.Numbers.{line-lower}
-use borrow.Author.Rules.{rules}
 use Rattle.line_table.proofs.line_at.Goals as goal
 
 pub returns : goal.returns

@@ -2,7 +2,6 @@
 use mathlib.Core.Path.{ap, ◌∙◌}
 use Rattle.line_table_model.specs.Rows.{kind_from}
 use Rattle.line_table_model.proofs.Numbers.{line_made}
-use borrow.Author.Rules.{rules}
 use Rattle.line_table.proofs.line_inside.Goals as goal
 
 pub returns : goal.returns

@@ -2,7 +2,6 @@
 use mathlib.Core.Path.{◌∙◌}
 use Rattle.buffer.proofs.Behind.{sets-lower}
 use Rattle.line_table_model.specs.Rows.{numbers_of}
-use borrow.Author.Rules.{rules}
 use Rattle.line_table.proofs.put_line.Goals as goal
 
 pub returns : goal.returns

@@ -1,7 +1,5 @@
 -- `line_table::put_numbers` meets its contract. Assumes nothing.
-use native.Mathlib.Omega.{arith}
 use Rattle.line_table_model.proofs.Numbers.{numbers-put}
-use borrow.Author.Rules.{rules}
 use Rattle.line_table.proofs.put_numbers.Goals as goal
 
 pub returns : goal.returns

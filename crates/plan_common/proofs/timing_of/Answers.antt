@@ -1,6 +1,5 @@
 -- `plan_common::timing_of` meets its contract. Assumes nothing.
 use Rattle.plan_model.proofs.TimesMade.{timing-made}
-use borrow.Author.Rules.{rules}
 use Rattle.plan_common.proofs.timing_of.Goals as goal
 
 pub returns : goal.returns

@@ -1,15 +1,13 @@
 -- `reason_print::put_reason` meets its contract. Assumes nothing.
-use mathlib.Core.Path.{◌≡◌, ap, sym, ◌∙◌}
+use mathlib.Core.Path.{ap, ◌∙◌}
 use native.Mathlib.Omega.{arith}
-use lib.ListN.{length, take, replicate}
-use lib.Seq.{length-take-le}
+use lib.ListN.{replicate}
 use Rattle.buffer.proofs.Putting.{put_front}
 use Rattle.refusals.specs.declared.Facts.{Facts}
 use Rattle.refusals.specs.Refusals.{facts_of, place_of}
 use Rattle.refusals.proofs.Sorts.{sort-inside}
 use Rattle.reason_model.specs.Reasons.{phrase_at, reason}
 use Rattle.reason_model.proofs.Sorts.{line-short}
-use borrow.Author.Rules.{rules}
 use Rattle.reason_print.proofs.put_reason.Goals as goal
 
 pub returns-clause-value : goal.returns-clause-value

@@ -1,9 +1,7 @@
 -- `reason_print::put_verdict` meets its contract. Assumes nothing.
 use mathlib.Core.Path.{◌≡◌}
-use native.Mathlib.Omega.{arith}
 use Rattle.decimal_model.specs.Ascii.{ascii}
 use Rattle.reason_model.specs.Reasons.{verdict_line}
-use borrow.Author.Rules.{rules}
 use Rattle.reason_print.proofs.put_verdict.Goals as goal
 
 pub returns-in-Broken-clause-value : goal.returns-in-Broken-clause-value

@@ -1,12 +1,9 @@
 -- `reason_read::read_reason` meets its contract. Assumes nothing.
-use mathlib.Core.Path.{◌≡◌, refl, sym, ◌∙◌}
-use Prim.Native.Nat.{◌-◌, ◌≤◌}
+use mathlib.Core.Path.{refl, sym, ◌∙◌}
 use native.Mathlib.Omega.{arith}
-use lib.ListN.{drop}
 use Rattle.refusals.specs.Table.{table}
-use Rattle.reason_model.specs.Reading.{read_from, read_reason}
+use Rattle.reason_model.specs.Reading.{read_reason}
 use Rattle.reason_model.proofs.Sorts.{sort-found, sort-later, sort-none}
-use borrow.Author.Rules.{rules}
 use Rattle.reason_read.proofs.read_reason.Goals as goal
 
 pub loop-sort-init : goal.loop-sort-init

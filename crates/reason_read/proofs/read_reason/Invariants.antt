@@ -1,11 +1,9 @@
 -- What the loops of `reason_read::read_reason` keep. Assumes nothing.
-use mathlib.Core.Path.{◌≡◌, refl, sym, ◌∙◌}
+use mathlib.Core.Path.{◌≡◌}
 use Prim.Native.Nat.{◌-◌, ◌≤◌}
-use native.Mathlib.Omega.{arith}
 use lib.ListN.{drop}
 use Rattle.refusals.specs.Table.{table}
 use Rattle.reason_model.specs.Reading.{read_from, read_reason}
-use Rattle.reason_model.proofs.Sorts.{sort-found, sort-later, sort-none}
 use Rattle.reason_read.proofs.read_reason.Given as goal
 
 abbrev pub invariant-loop-sort : goal.invariant-loop-sort

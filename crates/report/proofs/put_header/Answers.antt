@@ -1,5 +1,4 @@
 -- `report::put_header` meets its contract. Assumes nothing.
-use borrow.Author.Rules.{rules}
 use Rattle.decimal_model.specs.Ascii.{ascii}
 use Rattle.report_model.specs.Text.{header}
 use Rattle.report.proofs.put_header.Goals as goal

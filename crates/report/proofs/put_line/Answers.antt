@@ -1,8 +1,6 @@
 -- `report::put_line` meets its contract. Assumes nothing.
 use mathlib.Core.Path.{◌∙◌}
 use mathlib.Core.List.{[], ◌∷◌, ◌++◌}
-use native.Mathlib.Omega.{arith}
-use borrow.Author.Rules.{rules}
 use Rattle.report_model.specs.Text.{line_text}
 use Rattle.buffer.proofs.Behind.{sets-lower}
 use Rattle.report.proofs.put_line.Goals as goal

@@ -1,10 +1,8 @@
 -- `report::put_node_line` meets its contract. Assumes nothing.
 use mathlib.Core.Path.{◌∙◌}
 use mathlib.Core.List.{[], ◌∷◌, ◌++◌}
-use native.Mathlib.Omega.{arith}
 use Rattle.report_model.specs.TreeText.{node_text}
 use Rattle.buffer.proofs.Behind.{sets-lower}
-use borrow.Author.Rules.{rules}
 use Rattle.report.proofs.put_node_line.Goals as goal
 
 pub returns-clause-out_after : goal.returns-clause-out_after

@@ -1,7 +1,5 @@
 -- `report::put_refusal` meets its contract. Assumes nothing.
 use mathlib.Core.List.{◌∷◌}
-use native.Mathlib.Omega.{arith}
-use borrow.Author.Rules.{rules}
 use Rattle.decimal_model.specs.Decimal.{decimal}
 use Rattle.report_model.proofs.LineText.{refusal-spaced}
 use Rattle.buffer.proofs.Behind.{put_one, put-behind, byte-behind, front_ends}

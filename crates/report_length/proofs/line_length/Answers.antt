@@ -2,7 +2,6 @@
 use mathlib.Core.Path.{ap}
 use native.Mathlib.Omega.{arith}
 use lib.ListN.{length, length-append}
-use borrow.Author.Rules.{rules}
 use Rattle.report_model.proofs.LineText.{line-columns}
 use Rattle.report_length.proofs.line_length.Goals as goal
 

@@ -3,7 +3,6 @@ use mathlib.Core.Path.{ap}
 use mathlib.Core.List.{[], ◌∷◌}
 use native.Mathlib.Omega.{arith}
 use lib.ListN.{length, length-append}
-use borrow.Author.Rules.{rules}
 use Rattle.report_model.specs.TreeText.{node_text}
 use Rattle.report_model.proofs.LineText.{node-columns}
 use Rattle.report_length.proofs.node_line_length.Goals as goal

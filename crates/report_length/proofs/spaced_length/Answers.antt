@@ -1,6 +1,5 @@
 -- `report_length::spaced_length` meets its contract. Assumes nothing.
 use native.Mathlib.Omega.{arith}
-use borrow.Author.Rules.{rules}
 use Rattle.decimal_model.proofs.Writing.{at-most-twenty}
 use Rattle.report_length.proofs.spaced_length.Goals as goal
 

@@ -5,7 +5,6 @@ use Rattle.decimal_model.specs.Ascii.{ascii}
 use Rattle.lines.specs.Text.{joined}
 use Rattle.lines.proofs.Sameness.{same-decided}
 use mathlib.Core.Path.{sym, ◌∙◌}
-use borrow.Author.Rules.{rules}
 use Rattle.row_read.proofs.heading_of.Goals as goal
 
 pub returns-then-same : goal.returns-then-same

@@ -1,6 +1,5 @@
 -- `row_read::is_other` meets its contract. Assumes nothing.
 use Rattle.row_read_model.specs.Names.{is_other}
-use borrow.Author.Rules.{rules}
 use Rattle.row_read.proofs.is_other.Goals as goal
 
 pub returns-in-Twelve : goal.returns-in-Twelve

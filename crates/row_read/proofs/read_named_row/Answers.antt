@@ -2,7 +2,6 @@
 use mathlib.Core.Path.{ap, ◌∙◌}
 use Rattle.row_read_model.specs.declared.Heading.{Heading}
 use Rattle.row_read_model.specs.Rows.{row_under, named_row}
-use borrow.Author.Rules.{rules}
 use Rattle.row_read.proofs.read_named_row.Goals as goal
 
 pub returns : goal.returns

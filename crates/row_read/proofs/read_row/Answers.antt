@@ -2,7 +2,6 @@
 use mathlib.Core.Path.{sym, ap, ◌∙◌}
 use Rattle.row_read_model.specs.declared.Row.TheVariants.{Read}
 use Rattle.row_read_model.proofs.RowCases.{row-unnamed, row-unwritten, row_read}
-use borrow.Author.Rules.{rules}
 use Rattle.row_read.proofs.read_row.Goals as goal
 
 pub returns-then-is_other : goal.returns-then-is_other

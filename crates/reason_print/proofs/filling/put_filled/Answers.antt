@@ -1,15 +1,10 @@
 -- `reason_print::filling::put_filled` meets its contract. Assumes nothing.
-use mathlib.Core.Path.{ap, ◌∙◌}
 use mathlib.Core.List.{[], ◌∷◌, map}
-use Prim.Native.Nat.{◌-◌}
 use native.Mathlib.Omega.{arith}
-use lib.ListN.{length}
-use lib.Seq.{length-sets}
 use Rattle.reason_model.specs.Reasons.{part_of}
 use Rattle.reason_model.proofs.Parts.{two-small}
 use Rattle.reason_model.proofs.Printing.{filled-short}
-use Rattle.reason_model.proofs.Putting.{Begun, begun-none, begun_more, begun_all, begun-small}
-use borrow.Author.Rules.{rules}
+use Rattle.reason_model.proofs.Putting.{begun_more, begun_all, begun-small}
 use Rattle.reason_print.proofs.filling.put_filled.Goals as goal
 
 pub overflow_add-at : goal.overflow_add-at

@@ -3,7 +3,6 @@ use mathlib.Core.Path.{refl}
 use Rattle.reason_model.specs.Reasons.{part_of, part_text}
 use Rattle.buffer.proofs.Behind.{put_one}
 use Rattle.reason_model.proofs.Parts.{part-byte}
-use borrow.Author.Rules.{rules}
 use Rattle.reason_print.proofs.filling.put_part.Goals as goal
 
 pub returns-then-part-eq64-clause-value : goal.returns-then-part-eq64-clause-value

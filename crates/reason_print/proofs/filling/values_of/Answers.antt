@@ -1,5 +1,4 @@
 -- `reason_print::filling::values_of` meets its contract. Assumes nothing.
-use native.Mathlib.Omega.{arith}
 use Rattle.reason_model.specs.Reasons.{part_of, taken}
 use Rattle.reason_model.proofs.Parts.{other-takes}
 use mathlib.Core.Path.{refl, sym}

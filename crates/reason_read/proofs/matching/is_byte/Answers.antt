@@ -1,6 +1,5 @@
 -- `reason_read::matching::is_byte` meets its contract. Assumes nothing.
 use Rattle.reason_model.proofs.Words.{same_byte, other_length}
-use borrow.Author.Rules.{rules}
 use Rattle.reason_read.proofs.matching.is_byte.Goals as goal
 
 pub returns-then-word-eq1 : goal.returns-then-word-eq1

@@ -3,7 +3,6 @@ use mathlib.Core.Path.{refl, sym, ◌∙◌}
 use native.Mathlib.Omega.{arith}
 use borrow.Author.Tests.{le-leb, lt-leb}
 use Rattle.reason_model.specs.Reading.{word_byte}
-use borrow.Author.Rules.{rules}
 use Rattle.reason_read.proofs.matching.is_word_byte.Goals as goal
 
 pub returns-then-is_digit : goal.returns-then-is_digit

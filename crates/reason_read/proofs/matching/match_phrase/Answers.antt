@@ -1,10 +1,7 @@
 -- `reason_read::matching::match_phrase` meets its contract. Assumes nothing.
 use mathlib.Core.Path.{sym, ◌∙◌}
-use Prim.Native.Nat.{◌-◌}
 use native.Mathlib.Omega.{arith}
-use lib.ListN.{length}
-use Rattle.reason_model.proofs.Following.{Followed, followed-none, followed-more, followed-nowhere, followed-all, followed-past}
-use borrow.Author.Rules.{rules}
+use Rattle.reason_model.proofs.Following.{followed-more, followed-nowhere, followed-all, followed-past}
 use Rattle.reason_read.proofs.matching.match_phrase.Goals as goal
 
 pub returns-in_default : goal.returns-in_default

@@ -1,9 +1,7 @@
 -- What the loops of `reason_read::matching::match_phrase` keep. Assumes nothing.
-use mathlib.Core.Path.{sym, ◌∙◌}
 use Prim.Native.Nat.{◌-◌}
-use native.Mathlib.Omega.{arith}
 use lib.ListN.{length}
-use Rattle.reason_model.proofs.Following.{Followed, followed-none, followed-more, followed-nowhere, followed-all, followed-past}
+use Rattle.reason_model.proofs.Following.{Followed}
 use Rattle.reason_read.proofs.matching.match_phrase.Given as goal
 
 abbrev pub invariant-loop-k : goal.invariant-loop-k

@@ -1,11 +1,9 @@
 -- `reason_read::matching::match_sort` meets its contract. Assumes nothing.
-use mathlib.Core.Path.{refl, sym, ◌∙◌}
+use mathlib.Core.Path.{refl, ◌∙◌}
 use native.Mathlib.Omega.{arith}
 use lib.ListN.{replicate}
-use lib.Seq.{length-take-le}
 use Rattle.buffer.proofs.Putting.{put_front}
 use Rattle.reason_model.specs.Reasons.{phrase_at}
-use borrow.Author.Rules.{rules}
 use Rattle.reason_read.proofs.matching.match_sort.Goals as goal
 
 pub returns : goal.returns

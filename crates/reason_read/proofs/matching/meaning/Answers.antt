@@ -5,7 +5,6 @@ use Rattle.reason_model.specs.declared.Match.TheVariants.{At, Nowhere}
 use Rattle.reason_model.specs.Reasons.{part_of}
 use Rattle.reason_model.specs.Reading.{meant}
 use Rattle.reason_model.proofs.Parts.{part-byte}
-use borrow.Author.Rules.{rules}
 use Rattle.reason_read.proofs.matching.meaning.Goals as goal
 
 pub returns-then-part-eq64 : goal.returns-then-part-eq64

@@ -2,7 +2,6 @@
 use Rattle.reason_model.specs.Reasons.{part_of}
 use Rattle.reason_model.specs.Reading.{extent}
 use Rattle.reason_model.proofs.Parts.{part-byte}
-use borrow.Author.Rules.{rules}
 use Rattle.reason_read.proofs.matching.part_end.Goals as goal
 
 pub returns-then-part-eq64-clause-value : goal.returns-then-part-eq64-clause-value

@@ -1,12 +1,7 @@
 -- `reason_read::matching::word_end` meets its contract. Assumes nothing.
-use mathlib.Core.Path.{◌≡◌, refl, sym, ◌∙◌}
-use Prim.Native.Nat.{◌+◌, ◌-◌, ◌≤◌}
+use mathlib.Core.Path.{sym, ◌∙◌}
 use native.Mathlib.Omega.{arith}
-use lib.ListN.{length, drop}
-use borrow.Author.Tests.{not-true, not-false}
-use Rattle.reason_model.specs.Reading.{word_length}
 use Rattle.reason_model.proofs.Words.{word_more, word-ends, word_none}
-use borrow.Author.Rules.{rules}
 use Rattle.reason_read.proofs.matching.word_end.Goals as goal
 
 pub returns-then-not-is_word_byte-clause-value : goal.returns-then-not-is_word_byte-clause-value

@@ -1,11 +1,8 @@
 -- What the loops of `reason_read::matching::word_end` keep. Assumes nothing.
-use mathlib.Core.Path.{◌≡◌, refl, sym, ◌∙◌}
+use mathlib.Core.Path.{◌≡◌}
 use Prim.Native.Nat.{◌+◌, ◌-◌, ◌≤◌}
-use native.Mathlib.Omega.{arith}
 use lib.ListN.{length, drop}
-use borrow.Author.Tests.{not-true, not-false}
 use Rattle.reason_model.specs.Reading.{word_length}
-use Rattle.reason_model.proofs.Words.{word_more, word-ends, word_none}
 use Rattle.reason_read.proofs.matching.word_end.Given as goal
 
 abbrev pub invariant-loop-end : goal.invariant-loop-end

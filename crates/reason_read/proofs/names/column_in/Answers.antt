@@ -1,14 +1,10 @@
 -- `reason_read::names::column_in` meets its contract. Assumes nothing.
 use mathlib.Core.Path.{◌≡◌, refl, ap, sym, ◌∙◌}
-use Prim.Native.Nat.{suc, ◌-◌, ◌≤◌}
 use native.Mathlib.Omega.{arith}
 use native.Mathlib.Numerals.{add-one}
-use lib.ListN.{drop}
-use Rattle.settings_model.specs.Columns.{every_column}
 use Rattle.reason_model.specs.declared.Match.TheVariants.{At}
-use Rattle.reason_model.specs.Reading.{place_in, column_from, unnamed, column_in}
+use Rattle.reason_model.specs.Reading.{place_in, unnamed, column_in}
 use Rattle.reason_model.proofs.ColumnNames.{column-found, column-later, column-none}
-use borrow.Author.Rules.{rules}
 use Rattle.reason_read.proofs.names.column_in.Goals as goal
 
 pub loop-k-init : goal.loop-k-init

@@ -1,13 +1,9 @@
 -- What the loops of `reason_read::names::column_in` keep. Assumes nothing.
-use mathlib.Core.Path.{◌≡◌, refl, ap, sym, ◌∙◌}
+use mathlib.Core.Path.{◌≡◌}
 use Prim.Native.Nat.{suc, ◌-◌, ◌≤◌}
-use native.Mathlib.Omega.{arith}
-use native.Mathlib.Numerals.{add-one}
 use lib.ListN.{drop}
 use Rattle.settings_model.specs.Columns.{every_column}
-use Rattle.reason_model.specs.declared.Match.TheVariants.{At}
 use Rattle.reason_model.specs.Reading.{place_in, column_from, unnamed, column_in}
-use Rattle.reason_model.proofs.ColumnNames.{column-found, column-later, column-none}
 use Rattle.reason_read.proofs.names.column_in.Given as goal
 
 abbrev pub invariant-loop-k : goal.invariant-loop-k

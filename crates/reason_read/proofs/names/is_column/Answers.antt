@@ -7,7 +7,6 @@ use Rattle.buffer.proofs.Putting.{put_front}
 use Rattle.lines.proofs.Sameness.{same-decided}
 use Rattle.reason_model.specs.Reasons.{column_name}
 use Rattle.reason_model.proofs.ColumnNames.{column-short}
-use borrow.Author.Rules.{rules}
 use Rattle.reason_read.proofs.names.is_column.Goals as goal
 
 pub slice_bounds-name-end : goal.slice_bounds-name-end

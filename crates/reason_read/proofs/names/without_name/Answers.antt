@@ -5,7 +5,6 @@ use borrow.Author.Tests.{le-leb, lt-leb}
 use Rattle.settings_model.specs.Columns.{twelve, every_column}
 use Rattle.reason_model.specs.Reasons.{named}
 use Rattle.reason_model.specs.Reading.{unnamed}
-use borrow.Author.Rules.{rules}
 use Rattle.reason_read.proofs.names.without_name.Goals as goal
 
 pub returns-in_default : goal.returns-in_default

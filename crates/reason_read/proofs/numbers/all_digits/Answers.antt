@@ -1,12 +1,9 @@
 -- `reason_read::numbers::all_digits` meets its contract. Assumes nothing.
-use mathlib.Core.Path.{◌≡◌, refl, sym, ◌∙◌}
-use Prim.Native.Nat.{◌-◌, ◌≤◌}
+use mathlib.Core.Path.{refl, sym, ◌∙◌}
 use native.Mathlib.Omega.{arith}
-use lib.ListN.{length, drop, drop_of_length-le}
-use borrow.Author.Tests.{not-true, not-false}
+use lib.ListN.{drop_of_length-le}
 use Rattle.decimal_model.specs.Number.{digits}
 use Rattle.decimal_model.proofs.Spelling.{digits_step}
-use borrow.Author.Rules.{rules}
 use Rattle.reason_read.proofs.numbers.all_digits.Goals as goal
 
 pub returns-then-not-is_digit : goal.returns-then-not-is_digit

@@ -1,11 +1,8 @@
 -- What the loops of `reason_read::numbers::all_digits` keep. Assumes nothing.
-use mathlib.Core.Path.{◌≡◌, refl, sym, ◌∙◌}
+use mathlib.Core.Path.{◌≡◌}
 use Prim.Native.Nat.{◌-◌, ◌≤◌}
-use native.Mathlib.Omega.{arith}
-use lib.ListN.{length, drop, drop_of_length-le}
-use borrow.Author.Tests.{not-true, not-false}
+use lib.ListN.{length, drop}
 use Rattle.decimal_model.specs.Number.{digits}
-use Rattle.decimal_model.proofs.Spelling.{digits_step}
 use Rattle.reason_read.proofs.numbers.all_digits.Given as goal
 
 abbrev pub invariant-loop-i : goal.invariant-loop-i

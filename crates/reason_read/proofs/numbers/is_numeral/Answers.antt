@@ -7,7 +7,6 @@ use lib.ListN.{length}
 use borrow.Author.Tests.{le-leb, lt-leb}
 use Rattle.decimal_model.specs.Number.{digits}
 use Rattle.reason_model.specs.Reading.{numeral}
-use borrow.Author.Rules.{rules}
 use Rattle.reason_read.proofs.numbers.is_numeral.Goals as goal
 
 pub returns-then-word-lt1 : goal.returns-then-word-lt1

@@ -1,11 +1,9 @@
 -- `reason_read::numbers::place_in` meets its contract. Assumes nothing.
 use mathlib.Core.Path.{◌≡◌, sym, ap, ◌∙◌}
 use native.Mathlib.Omega.{arith}
-use borrow.Author.Tests.{not-true, not-false}
 use Rattle.reason_model.specs.declared.Match.TheVariants.{At}
 use Rattle.decimal_model.specs.Number.{spelled}
 use Rattle.reason_model.proofs.Words.{place-within, place-above, no-numeral}
-use borrow.Author.Rules.{rules}
 use Rattle.reason_read.proofs.numbers.place_in.Goals as goal
 
 pub returns-then-not-is_numeral : goal.returns-then-not-is_numeral

@@ -1,12 +1,11 @@
 -- `reason_read::numbers::value_of` meets its contract. Assumes nothing.
-use mathlib.Core.Path.{◌≡◌, refl, sym, ◌∙◌}
-use Prim.Native.Nat.{◌+◌, ◌-◌, ◌^◌, ◌≤◌, min}
+use mathlib.Core.Path.{sym, ◌∙◌}
+use Prim.Native.Nat.{◌+◌, ◌^◌}
 use native.Mathlib.Omega.{arith}
-use lib.ListN.{length, drop, drop_of_length-le}
-use Rattle.decimal_model.specs.Number.{spelled_after, spelled}
+use lib.ListN.{drop, drop_of_length-le}
+use Rattle.decimal_model.specs.Number.{spelled_after}
 use Rattle.decimal_model.proofs.Spelling.{spelled_step}
 use Rattle.reason_model.proofs.Words.{spelled-limited}
-use borrow.Author.Rules.{rules}
 use Rattle.reason_read.proofs.numbers.value_of.Goals as goal
 
 pub loop-i-preserved : goal.loop-i-preserved

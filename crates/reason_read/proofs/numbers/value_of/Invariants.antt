@@ -1,11 +1,8 @@
 -- What the loops of `reason_read::numbers::value_of` keep. Assumes nothing.
-use mathlib.Core.Path.{◌≡◌, refl, sym, ◌∙◌}
-use Prim.Native.Nat.{◌+◌, ◌-◌, ◌^◌, ◌≤◌, min}
-use native.Mathlib.Omega.{arith}
-use lib.ListN.{length, drop, drop_of_length-le}
+use mathlib.Core.Path.{◌≡◌}
+use Prim.Native.Nat.{◌-◌, ◌^◌, ◌≤◌, min}
+use lib.ListN.{length, drop}
 use Rattle.decimal_model.specs.Number.{spelled_after, spelled}
-use Rattle.decimal_model.proofs.Spelling.{spelled_step}
-use Rattle.reason_model.proofs.Words.{spelled-limited}
 use Rattle.reason_read.proofs.numbers.value_of.Given as goal
 
 abbrev pub invariant-loop-i : goal.invariant-loop-i

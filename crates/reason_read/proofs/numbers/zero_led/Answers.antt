@@ -1,7 +1,6 @@
 -- `reason_read::numbers::zero_led` meets its contract. Assumes nothing.
 use native.Mathlib.Omega.{arith}
 use Rattle.reason_model.proofs.Words.{zero-led-few, zero-led-several}
-use borrow.Author.Rules.{rules}
 use Rattle.reason_read.proofs.numbers.zero_led.Goals as goal
 
 pub returns-then-word-lt2 : goal.returns-then-word-lt2

@@ -11,7 +11,6 @@ use Rattle.reason_model.specs.Reasons.{named, column_name}
 use Rattle.reason_model.specs.Inner.{joined, starts_from, names}
 use Rattle.reason_model.proofs.ColumnNames.{name-above}
 use Rattle.reason_model.proofs.Tables.{name-stands}
-use borrow.Author.Rules.{rules}
 use Rattle.reason_table.proofs.columns.put_column.Goals as goal
 
 pub returns-then-column-lt1-clause-value : goal.returns-then-column-lt1-clause-value

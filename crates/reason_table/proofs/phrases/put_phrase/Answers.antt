@@ -11,7 +11,6 @@ use Rattle.reason_model.specs.Reasons.{phrase_at}
 use Rattle.reason_model.specs.Inner.{joined, starts_from, phrases}
 use Rattle.reason_model.proofs.Sorts.{phrase-short}
 use Rattle.reason_model.proofs.Tables.{phrase-stands, phrase-else}
-use borrow.Author.Rules.{rules}
 use Rattle.reason_table.proofs.phrases.put_phrase.Goals as goal
 
 -- a text that is the phrase of a sort was put

@@ -1,6 +1,5 @@
 -- `report::line::letter_of` meets its contract. Assumes nothing.
 use mathlib.Core.Path.{refl}
-use borrow.Author.Rules.{rules}
 use Rattle.plan_model.specs.Lines.{letter}
 use Rattle.report.proofs.line.letter_of.Goals as goal
 

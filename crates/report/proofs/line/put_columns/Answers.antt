@@ -2,12 +2,11 @@
 use mathlib.Core.List.{[], ◌∷◌}
 use Prim.Native.Nat.{◌+◌, ◌≤◌}
 use native.Mathlib.Omega.{arith}
-use borrow.Author.Rules.{rules}
 use Rattle.decimal_model.specs.Decimal.{decimal}
 use Rattle.plan_model.specs.Lines.{letter}
 use Rattle.report_model.specs.Text.{line_text}
 use Rattle.report_model.proofs.LineText.{line-columns}
-use Rattle.buffer.proofs.Behind.{Put, put_one, put-behind, put_keeps}
+use Rattle.buffer.proofs.Behind.{Put, put_one, put-behind}
 use Rattle.report.proofs.line.put_columns.Goals as goal
 
 -- the letter is put

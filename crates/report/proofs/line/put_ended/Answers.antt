@@ -1,10 +1,8 @@
 -- `report::line::put_ended` meets its contract. Assumes nothing.
 use mathlib.Core.List.{[], ◌∷◌, ◌++◌}
 use Prim.Native.Nat.{◌+◌}
-use native.Mathlib.Omega.{arith}
 use Rattle.report_model.specs.Text.{line_text}
-use Rattle.buffer.proofs.Behind.{Put, byte-behind, put_keeps}
-use borrow.Author.Rules.{rules}
+use Rattle.buffer.proofs.Behind.{Put, byte-behind}
 use Rattle.report.proofs.line.put_ended.Goals as goal
 
 -- the line and its LF are put

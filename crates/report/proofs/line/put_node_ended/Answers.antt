@@ -1,13 +1,11 @@
 -- `report::line::put_node_ended` meets its contract. Assumes nothing.
 use mathlib.Core.List.{[], ◌∷◌, ◌++◌}
 use Prim.Native.Nat.{◌+◌}
-use native.Mathlib.Omega.{arith}
 use Rattle.report_model.specs.Text.{line_text}
 use Rattle.decimal_model.specs.Decimal.{decimal}
 use Rattle.report_model.specs.TreeText.{node_text}
 use Rattle.report_model.proofs.LineText.{node-columns}
-use Rattle.buffer.proofs.Behind.{Put, put-behind, byte-behind, put_keeps}
-use borrow.Author.Rules.{rules}
+use Rattle.buffer.proofs.Behind.{Put, put-behind, byte-behind}
 use Rattle.report.proofs.line.put_node_ended.Goals as goal
 
 -- the line and its LF are put

@@ -2,7 +2,6 @@
 use mathlib.Core.Path.{ap}
 use Prim.Native.Nat.{ℕ, ◌+◌}
 use native.Mathlib.Omega.{arith}
-use borrow.Author.Rules.{rules}
 use Rattle.decimal_model.specs.Decimal.{decimal}
 use Rattle.decimal_model.proofs.Writing.{at-most-twenty}
 use Rattle.buffer.proofs.Behind.{put_one, put-behind}

@@ -1,9 +1,7 @@
 -- `row_read::values::column_count` meets its contract. Assumes nothing.
 use mathlib.Core.Path.{refl}
-use native.Mathlib.Omega.{arith}
 use Rattle.settings_model.specs.Columns.{twelve, every_column}
 use Rattle.row_read_model.specs.Names.{columns_under}
-use borrow.Author.Rules.{rules}
 use Rattle.row_read.proofs.values.column_count.Goals as goal
 
 pub returns-in-Twelve-clause-value : goal.returns-in-Twelve-clause-value
