@@ -24,7 +24,6 @@ use Rattle.refusals.specs.Outcome.{Planned, Refused}
 use Rattle.row_model.specs.Outcome.{RowOutcome}
 use Rattle.plan_model.specs.declared.Line.{Line}
 use Rattle.plan_model.specs.Plans.{planned, refused, answer}
-use Rattle.report_model.specs.Text.{text}
 use Rattle.reason_model.specs.Reasons.{verdict_line}
 use Rattle.row_program_model.specs.declared.Style.{Style}
 use Rattle.row_program_model.specs.declared.Style.TheVariants.{Reasons}

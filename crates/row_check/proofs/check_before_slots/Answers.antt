@@ -1,7 +1,6 @@
 -- `row_check::check_before_slots` meets its contract. Assumes nothing.
 use mathlib.Core.Path.{sym, ◌∙◌}
 use Rattle.row_plan_model.proofs.Answers.{three-four-broken, five-broken, six-next, kept-checked}
-use borrow.Author.Rules.{rules}
 use Rattle.row_check.proofs.check_before_slots.Goals as goal
 
 pub returns-in-Broken : goal.returns-in-Broken

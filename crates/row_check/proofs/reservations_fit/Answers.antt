@@ -3,7 +3,6 @@ use Rattle.row_model.specs.Checks.{reservations}
 use native.Mathlib.Omega.{arith}
 use Rattle.refusals.proofs.Limits.{over-limit, in-limit}
 use Prim.Native.Nat.{◌+◌}
-use borrow.Author.Rules.{rules}
 use Rattle.row_check.proofs.reservations_fit.Goals as goal
 
 pub returns-then-s-gt-MOST_RESERVATIONS : goal.returns-then-s-gt-MOST_RESERVATIONS

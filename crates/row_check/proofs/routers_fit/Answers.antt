@@ -3,7 +3,6 @@ use Prim.Native.Nat.{◌-◌, ◌*◌, ◌^◌, ◌%◌}
 use native.Mathlib.Omega.{arith}
 use Rattle.row_plan_model.proofs.Conditions.{routers-over, routers-in}
 use Rattle.plan_model.proofs.TimesMade.{one_shifted}
-use borrow.Author.Rules.{rules}
 use Rattle.row_check.proofs.routers_fit.Goals as goal
 
 pub returns-then-superframes-routers : goal.returns-then-superframes-routers

@@ -1,9 +1,9 @@
 -- `row_check::routers_of` meets its contract. Assumes nothing.
-use Rattle.row_model.proofs.LoadBounds.{full, full-one, full-more}
+use Rattle.row_model.proofs.LoadBounds.{full-one, full-more}
 use native.Mathlib.Numerals.{add-one}
 use native.Mathlib.Nat.{mul-le-mul}
-use Prim.Native.Nat.{◌-◌, ◌^◌, ◌≤◌}
-use mathlib.Core.Path.{◌≡◌, sym, ap, ◌∙◌}
+use Prim.Native.Nat.{◌^◌, ◌≤◌}
+use mathlib.Core.Path.{sym}
 use native.Mathlib.Omega.{arith}
 use Rattle.row_plan_model.proofs.Conditions.{full-fits}
 use Rattle.row_check.proofs.routers_of.Goals as goal

@@ -1,11 +1,7 @@
 -- What the loops of `row_check::routers_of` keep. Assumes nothing.
-use Rattle.row_model.proofs.LoadBounds.{full, full-one, full-more}
-use native.Mathlib.Numerals.{add-one}
-use native.Mathlib.Nat.{mul-le-mul}
-use Prim.Native.Nat.{◌-◌, ◌^◌, ◌≤◌}
-use mathlib.Core.Path.{◌≡◌, sym, ap, ◌∙◌}
-use native.Mathlib.Omega.{arith}
-use Rattle.row_plan_model.proofs.Conditions.{full-fits}
+use Rattle.row_model.proofs.LoadBounds.{full}
+use Prim.Native.Nat.{◌-◌, ◌≤◌}
+use mathlib.Core.Path.{◌≡◌}
 use Rattle.row_check.proofs.routers_of.Given as goal
 
 abbrev pub invariant-loop-i : goal.invariant-loop-i

@@ -1,12 +1,11 @@
 -- `row_print::print` meets its contract. Assumes nothing.
-use mathlib.Core.Path.{◌≡◌, refl, ap, ◌∙◌}
+use mathlib.Core.Path.{◌≡◌, refl, ap}
 use mathlib.Core.List.{[], ◌∷◌, ◌++◌}
-use Prim.Native.Nat.{ℕ, ◌+◌, ◌*◌, ◌-◌, ◌≤◌, min}
+use Prim.Native.Nat.{ℕ, ◌+◌, min}
 use native.Mathlib.Omega.{arith}
-use borrow.Author.Rules.{rules}
-use Rattle.buffer.proofs.Behind.{Put, put-behind, put_keeps, front_ends}
+use Rattle.buffer.proofs.Behind.{put-behind, front_ends}
 use Rattle.report_model.specs.Text.{line_text}
-use Rattle.row_print.proofs.Paging.{behind, behind-none, behind_more, text-put}
+use Rattle.row_print.proofs.Paging.{behind-none, behind_more, text-put}
 use Rattle.row_print.proofs.print.Goals as goal
 
 pub loop-i-init : goal.loop-i-init

@@ -1,11 +1,7 @@
 -- What the loops of `row_print::print` keep. Assumes nothing.
-use mathlib.Core.Path.{◌≡◌, refl, ap, ◌∙◌}
-use mathlib.Core.List.{[], ◌∷◌, ◌++◌}
-use Prim.Native.Nat.{ℕ, ◌+◌, ◌*◌, ◌-◌, ◌≤◌, min}
-use native.Mathlib.Omega.{arith}
-use Rattle.buffer.proofs.Behind.{Put, put-behind, put_keeps, front_ends}
-use Rattle.report_model.specs.Text.{line_text}
-use Rattle.row_print.proofs.Paging.{behind, behind-none, behind_more, text-put}
+use Prim.Native.Nat.{◌+◌, ◌*◌, ◌-◌, ◌≤◌}
+use Rattle.buffer.proofs.Behind.{Put}
+use Rattle.row_print.proofs.Paging.{behind}
 use Rattle.row_print.proofs.print.Given as goal
 
 abbrev pub invariant-loop-i : goal.invariant-loop-i

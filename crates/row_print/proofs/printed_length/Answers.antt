@@ -1,10 +1,9 @@
 -- `row_print::printed_length` meets its contract. Assumes nothing.
 use mathlib.Core.Path.{◌≡◌, ap}
 use mathlib.Core.List.{[], ◌∷◌, ◌++◌}
-use Prim.Native.Nat.{◌+◌, ◌*◌, ◌-◌, ◌≤◌, min}
+use Prim.Native.Nat.{min}
 use native.Mathlib.Omega.{arith}
 use lib.ListN.{length, length-append}
-use borrow.Author.Rules.{rules}
 use Rattle.report_model.specs.Text.{line_text}
 use Rattle.row_print.proofs.Paging.{behind, behind-none, behind_more, text-length}
 use Rattle.row_print.proofs.printed_length.Goals as goal

@@ -1,0 +1,17 @@
+-- `row_decide::lines::put_end` meets its contract. Assumes nothing.
+use mathlib.Core.Path.{refl}
+use native.Mathlib.Omega.{arith}
+use borrow.Author.Rules.{rules}
+use Rattle.row_plan_model.specs.Pages.{page}
+use Rattle.row_plan_model.proofs.PageLaws.{end-figures}
+use Rattle.row_plan_model.proofs.Ends.{end_none, end-some}
+use Rattle.row_decide.proofs.lines.put_end.Goals as goal
+
+pub returns-then-s-eq0-clause-table_after : goal.returns-then-s-eq0-clause-table_after
+returns-then-s-eq0-clause-table_after c = end_none c.args.s (page c.args.w c.args.table.now) c.if-s-eq0.true
+
+pub returns-clause-table_after : goal.returns-clause-table_after
+returns-clause-table_after c =
+    let p = c.requires in
+    let e = c.put_link.ensures in
+    let f = end-figures c.args.s p.sound c.args.end c.args.interval _ p.interval_value p.end_value refl in end-some c.args.s (page c.args.w c.args.table.now) _ _ (omega (arith, c.if-s-eq0.false)) f e.table_after

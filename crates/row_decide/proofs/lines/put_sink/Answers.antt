@@ -1,0 +1,14 @@
+-- `row_decide::lines::put_sink` meets its contract. Assumes nothing.
+use mathlib.Core.Path.{ap, ◌∙◌}
+use native.Mathlib.Omega.{arith}
+use borrow.Author.Rules.{rules}
+use Rattle.plan_model.specs.declared.Line.{Line}
+use Rattle.row_plan_model.specs.Pages.{page, pushed}
+use Rattle.row_plan_model.proofs.Ends.{sink-line-made}
+use Rattle.row_decide.proofs.lines.put_sink.Goals as goal
+
+pub returns-clause-table_after : goal.returns-clause-table_after
+returns-clause-table_after c =
+    let p = c.requires in
+    let w = c.put_next.ensures in
+    let l = sink-line-made c.args.s c.args.arriving c.args.interval c.args.w.delay _ p.interval_value p.arriving_value p.delay_value c.whole_frames-buffer.ensures in w.table_after ∙ ap (λ (x : Line). pushed (page c.args.w c.args.table.now) x) l
