@@ -1,7 +1,7 @@
 -- The promise of a surveyed tree is about something: it is broken where a text with too small a BUFFER or ROUTE stands, or a plan
 -- that was made without LOSS. Assumes nothing:
 -- these are definitions and statements; proofs/Breaks proves them.
-use Rattle.std.specs.Prelude.{ℕ, List, length}
+use Rattle.std.specs.Prelude.{ℕ, List}
 use Rattle.decimal_model.specs.Ascii.{ascii}
 use Rattle.settings_model.specs.Checks.{radio}
 use Rattle.tree_calls_model.specs.Promise.{PromisedTree}

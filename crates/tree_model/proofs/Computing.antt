@@ -16,7 +16,7 @@ use Rattle.tree_model.specs.Loads.{gather, input_by, output_by, entering}
 use Rattle.tree_model.specs.Lines.{load_at, link_at, sink_figures, figures_at, way_delay, route_at, line_at, lines}
 use Rattle.tree_model.specs.Checks.{routers_fit, reserves, reservations_at, used_at, reservable_at, router_at, routers_from, conditions}
 use Rattle.tree_model.specs.Outcome.{outcome_of}
-use Rattle.tree_model.specs.Promise.{no_line, figures_in, route_in, longest, network_of, site_of, printed_of}
+use Rattle.tree_model.specs.Promise.{no_line, figures_in, route_in, longest, site_of, printed_of}
 use Rattle.promise_model.specs.Promise as promise
 
 unfoldable pub trees : Type 0

@@ -28,7 +28,7 @@ use Rattle.tree_model.specs.Checks.{reserves, reservations_at, used_at, reservab
 use Rattle.refusals.proofs.Outcomes.{planned-unbroken, unbroken-planned}
 use Rattle.refusals.specs.Outcome.{Planned}
 use Rattle.tree_model.specs.Outcome.{outcome_of}
-use Rattle.tree_model.specs.Promise.{network_of, Windows, Keeps, site_of, printed_of}
+use Rattle.tree_model.specs.Promise.{Windows, Keeps, site_of, printed_of}
 use Rattle.tree_model.specs.Laws.{Surveyed, Plannable, PlannedExactly, NoSlotTooMany, EveryLoadBounded, EveryPlanKeeps, WindowsExist}
 use Rattle.tree_model.proofs.LoadBounds.{Low, input-low}
 use Rattle.tree_model.proofs.WayLaws.{facing, superframe-node}

@@ -15,7 +15,7 @@ use Rattle.network.proofs.Oracles.{every-choice-is-a-run}
 use Rattle.plan_model.specs.Lines.{columns}
 use Rattle.network.proofs.Stretches.{stretch, stretch-le}
 use Rattle.tree_model.specs.Lines.{lines}
-use Rattle.tree_model.specs.Promise.{network_of, Windows, Readings, site_of, printed_of}
+use Rattle.tree_model.specs.Promise.{Windows, Readings, site_of, printed_of}
 use Rattle.tree_model.specs.Laws.{Surveyed}
 use Rattle.tree_model.specs.Examples.{node_columns, table}
 use Rattle.tree_model.specs.Witness.{short, tree, offsets, network, readings, Witnessed}

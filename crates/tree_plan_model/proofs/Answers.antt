@@ -19,7 +19,6 @@ use Rattle.settings_model.specs.Checks.{radio_checks}
 use Rattle.settings_model.specs.Laws.{CheckedRadio}
 use Rattle.settings_model.proofs.LawsHold.{unbroken-where-radio-checked}
 use Rattle.plan_model.specs.Times.{superframes}
-use Rattle.plan_model.specs.Plans.{answer}
 use Rattle.refusals.proofs.Limits.{over-limit, in-limit}
 use Rattle.tree_model.specs.Tree.{Tree, tree_of, is_number, is_router, routers}
 use Rattle.tree_model.specs.Checks.{routers_fit}

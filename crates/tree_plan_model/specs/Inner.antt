@@ -11,7 +11,7 @@ use Rattle.links.specs.Answers.{Timed}
 use Rattle.tree_model.specs.Tree.{Tree, tree_of, Rooted, Ranged, WithoutGaps}
 use Rattle.tree_model.specs.Ways.{next, Beyond}
 use Rattle.tree_model.specs.Loads.{input_of}
-use Rattle.tree_model.specs.Checks.{routers_fit, conditions}
+use Rattle.tree_model.specs.Checks.{routers_fit}
 use Rattle.tree_model.proofs.LoadBounds.{Short}
 use Rattle.tree_read_model.specs.Survey.{sink_right}
 

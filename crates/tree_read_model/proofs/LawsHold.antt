@@ -1,6 +1,6 @@
 -- The laws of specs/Laws. Assumes nothing.
 use mathlib.Core.Path.{ap, ◌∙◌}
-use mathlib.Core.Bool.{true, ◌&&◌, and-eq-true_iff, true≢false}
+use mathlib.Core.Bool.{◌&&◌, and-eq-true_iff, true≢false}
 use mathlib.Core.List.{List, [], ◌∷◌, ◌++◌}
 use Prim.Native.Nat.{ℕ, ◌≤◌}
 use native.Mathlib.Omega.{arith}

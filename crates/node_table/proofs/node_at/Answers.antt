@@ -3,7 +3,6 @@ use mathlib.Core.Path.{ap, ◌∙◌}
 use Prim.Native.Nat.{ℕ, ◌*◌}
 use Rattle.node_table_model.specs.NodeRows.{node_in}
 use Rattle.node_table_model.proofs.NodeLaws.{node_made}
-use borrow.Author.Rules.{rules}
 use Rattle.node_table.proofs.node_at.Goals as goal
 
 pub returns : goal.returns

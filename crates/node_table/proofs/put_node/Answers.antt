@@ -4,7 +4,6 @@ use Prim.Native.Nat.{ℕ, ◌*◌}
 use lib.Seq.{sets}
 use Rattle.node_table_model.specs.NodeRows.{node_numbers}
 use Rattle.node_table_model.proofs.NodeLaws.{node-put}
-use borrow.Author.Rules.{rules}
 use Rattle.node_table.proofs.put_node.Goals as goal
 
 pub returns : goal.returns

@@ -1,9 +1,7 @@
 -- What the loops of `tree_children::clear` keep. Assumes nothing.
-use mathlib.Core.Path.{◌≡◌, ◌∙◌}
+use mathlib.Core.Path.{◌≡◌}
 use Prim.Native.Nat.{ℕ, ◌≤◌, ◌<◌, ◌-◌}
-use native.Mathlib.Omega.{arith}
-use lib.ListN.{length, get_or, length-set}
-use Rattle.tree_children.proofs.Linking.{clear-more, clear-all}
+use lib.ListN.{length, get_or}
 use Rattle.tree_children.proofs.clear.Given as goal
 
 abbrev pub invariant-loop-i : goal.invariant-loop-i

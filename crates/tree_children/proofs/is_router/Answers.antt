@@ -1,6 +1,5 @@
 -- `tree_children::is_router` meets its contract. Assumes nothing.
 use native.Mathlib.Omega.{arith}
-use borrow.Author.Rules.{rules}
 use Rattle.tree_children.proofs.Linking.{root_in, child-in, none_in}
 use Rattle.tree_children.proofs.is_router.Goals as goal
 

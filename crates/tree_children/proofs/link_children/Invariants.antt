@@ -1,11 +1,8 @@
 -- What the loops of `tree_children::link_children` keep. Assumes nothing.
-use mathlib.Core.Path.{◌≡◌, ◌∙◌}
-use mathlib.Core.Logic.{⊎_elim}
-use Prim.Native.Nat.{◌-◌, ◌≤◌, ◌<◌}
-use native.Mathlib.Omega.{arith}
-use lib.ListN.{length, get_or}
+use mathlib.Core.Path.{◌≡◌}
+use Prim.Native.Nat.{◌-◌, ◌≤◌}
+use lib.ListN.{length}
 use Rattle.tree_plan_model.specs.Children.{LinkedFrom}
-use Rattle.tree_children.proofs.Linking.{link-none, stored-length, stored-put, link-more}
 use Rattle.tree_children.proofs.link_children.Given as goal
 
 abbrev pub invariant-loop-w : goal.invariant-loop-w

@@ -1,6 +1,5 @@
 -- `tree_notes::load_at` meets its contract. Assumes nothing.
 use Rattle.tree_plan_model.proofs.Noting.{load-made, load-none}
-use borrow.Author.Rules.{rules}
 use Rattle.tree_notes.proofs.load_at.Goals as goal
 
 pub returns-then-v-lt-BURST : goal.returns-then-v-lt-BURST

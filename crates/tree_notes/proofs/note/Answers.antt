@@ -2,7 +2,6 @@
 use mathlib.Core.Path.{◌≡◌, ap, ◌∙◌}
 use mathlib.Core.List.{List}
 use Prim.Native.Nat.{ℕ, ◌+◌}
-use native.Mathlib.Omega.{arith}
 use lib.ListN.{length, set}
 use Rattle.tree_plan_model.proofs.Noting.{note-made, note-none}
 use borrow.Author.Rules.{rules}

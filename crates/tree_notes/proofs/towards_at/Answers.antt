@@ -1,6 +1,5 @@
 -- `tree_notes::towards_at` meets its contract. Assumes nothing.
 use Rattle.tree_plan_model.proofs.Noting.{towards-made, towards_none}
-use borrow.Author.Rules.{rules}
 use Rattle.tree_notes.proofs.towards_at.Goals as goal
 
 pub returns-then-v-lt-BURST : goal.returns-then-v-lt-BURST

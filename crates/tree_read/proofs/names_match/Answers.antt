@@ -2,7 +2,6 @@
 use Rattle.tree_read_model.specs.Entries.{is_name_line, name_line}
 use Rattle.decimal_model.specs.Ascii.{ascii}
 use Rattle.lines.proofs.Sameness.{same-decided}
-use borrow.Author.Rules.{rules}
 use Rattle.tree_read.proofs.names_match.Goals as goal
 
 pub returns : goal.returns

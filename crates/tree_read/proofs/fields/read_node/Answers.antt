@@ -1,9 +1,7 @@
 -- `tree_read::fields::read_node` meets its contract. Assumes nothing.
 use mathlib.Core.Path.{refl, sym, ◌∙◌}
-use Prim.Native.Nat.{◌-◌}
 use native.Mathlib.Omega.{arith}
-use Rattle.tree_read_model.proofs.Taking.{Taken, taken_none, taken-missing, taken-unreadable, taken-value, taken-after, taken-all, finished}
-use borrow.Author.Rules.{rules}
+use Rattle.tree_read_model.proofs.Taking.{taken_none, taken-missing, taken-unreadable, taken-value, taken-after, taken-all, finished}
 use Rattle.tree_read.proofs.fields.read_node.Goals as goal
 
 pub loop-k-init : goal.loop-k-init

@@ -1,8 +1,6 @@
 -- What the loops of `tree_read::fields::read_node` keep. Assumes nothing.
-use mathlib.Core.Path.{refl, sym, ◌∙◌}
 use Prim.Native.Nat.{◌-◌}
-use native.Mathlib.Omega.{arith}
-use Rattle.tree_read_model.proofs.Taking.{Taken, taken_none, taken-missing, taken-unreadable, taken-value, taken-after, taken-all, finished}
+use Rattle.tree_read_model.proofs.Taking.{Taken}
 use Rattle.tree_read.proofs.fields.read_node.Given as goal
 
 abbrev pub invariant-loop-k : goal.invariant-loop-k
