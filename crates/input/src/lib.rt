@@ -4,18 +4,23 @@
 // No public function has a `requires`.
 #![tactic(auto)]
 
-ghost use Rattle.std.specs.Prelude.{◌<◌, ◌≤◌, length, take, IfOk};
+ghost use Rattle.std.specs.Prelude.{◌≡◌, ℕ, ◌<◌, ◌≤◌, length, take, IfOk, IfErr, IsOk};
 ghost use Rattle.std.specs.Io.KnownBytes.{Consumes, IsAtEnd};
 
 use std::io;
 use std::io::Read;
 
 // Reads until the space is full or the input ends, and answers how many bytes then stand at the space's front. A read that fails is answered
-// as its error.
+// as its error. What the reads before it took from the input then stands at the space's front, and nothing more was taken. These bytes do
+// not fill the space, and how many they are is not told; what stands behind them may be anything. The space stays as long as it was, and an
+// empty one is always answered Ok.
 pub fn read_full<R: Read>(reader: &mut R, space: &mut [u8]) -> io::Result<usize>
     ensures within { IfOk result (λ n. n ≤ length space.new) }
     ensures bytes { IfOk result (λ n. Consumes (R.remaining reader.old) (R.remaining reader.new) (take n space.new)) }
     ensures end { IfOk result (λ n. n < length space.new → IsAtEnd (R.remaining reader.new)) }
+    ensures err { IfErr result (λ _. (k : ℕ) × (k < length space.new) × Consumes (R.remaining reader.old) (R.remaining reader.new) (take k space.new)) }
+    ensures same_length { length space.new ≡ length space.old }
+    ensures empty { length space.old ≡ 0 → IsOk result }
 {
     let mut done = 0;
     while done < space.len() {
