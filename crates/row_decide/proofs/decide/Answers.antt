@@ -1,6 +1,5 @@
 -- `row_decide::decide` meets its contract. Assumes nothing.
 use mathlib.Core.Path.{sym, ◌∙◌}
-use borrow.Author.Rules.{rules}
 use Rattle.row_model.specs.Lines.{lines}
 use Rattle.line_table_model.specs.Rows.{row_table}
 use Rattle.row_plan_model.proofs.Answers.{kept-before-slots, broken-refused, kept-planned, plan-keeps}
@@ -50,6 +49,16 @@ pub put_lines-length-requires-clause-held_below : goal.put_lines-length-requires
 put_lines-length-requires-clause-held_below c =
     let d = c.check-links.ensures in
     let h = d.links_left.kept (kept-before-slots _ (sym d.verdict_value ∙ c.in_default.is)) in h.downward
+
+pub put_lines-length-requires-clause-interval_value : goal.put_lines-length-requires-clause-interval_value
+put_lines-length-requires-clause-interval_value c =
+    let d = c.check-links.ensures in
+    let h = d.links_left.kept (kept-before-slots _ (sym d.verdict_value ∙ c.in_default.is)) in h.interval
+
+pub put_lines-length-requires-clause-arriving_value : goal.put_lines-length-requires-clause-arriving_value
+put_lines-length-requires-clause-arriving_value c =
+    let d = c.check-links.ensures in
+    let h = d.links_left.kept (kept-before-slots _ (sym d.verdict_value ∙ c.in_default.is)) in h.arriving
 
 pub returns-clause-value : goal.returns-clause-value
 returns-clause-value c =

@@ -1,6 +1,5 @@
 -- `row_decide::put_lines` meets its contract. Assumes nothing.
-use mathlib.Core.Path.{refl, sym, ap, ◌∙◌}
-use borrow.Author.Rules.{rules}
+use mathlib.Core.Path.{sym, ap, ◌∙◌}
 use Rattle.line_table_model.proofs.LineLaws.{lines-length}
 use Rattle.row_model.specs.Lines.{lines}
 use Rattle.row_plan_model.specs.Pages.{Page}

@@ -1,15 +1,13 @@
 -- `row_decide::lines::put_downward` meets its contract. Assumes nothing.
-use mathlib.Core.Path.{◌≡◌, refl, sym, ap, ◌∙◌}
-use Prim.Native.Nat.{◌+◌, ◌-◌, ◌*◌, ◌≤◌, ◌<◌}
+use mathlib.Core.Path.{refl, sym, ap, ◌∙◌}
+use Prim.Native.Nat.{◌+◌, ◌-◌, ◌<◌}
 use native.Mathlib.Omega.{arith}
-use lib.ListN.{length}
-use borrow.Author.Rules.{rules}
 use Rattle.row_plan_model.proofs.Tables.{link-there}
 use Rattle.links.specs.declared.Figures.{Figures}
 use Rattle.plan_model.specs.declared.Kind.TheVariants.{Downward}
 use Rattle.plan_model.specs.Lines.{line}
 use Rattle.row_plan_model.specs.Pages.{Page, page, pushed, filled, down_lines_from}
-use Rattle.row_plan_model.proofs.PageLaws.{down-figures, down-start, down_step, down-end, filled-length}
+use Rattle.row_plan_model.proofs.PageLaws.{down-figures, down_step, down-end}
 use Rattle.row_decide.proofs.lines.put_downward.Goals as goal
 
 pub loop-i-preserved : goal.loop-i-preserved

@@ -1,7 +1,6 @@
 -- `row_decide::lines::put_end` meets its contract. Assumes nothing.
 use mathlib.Core.Path.{refl}
 use native.Mathlib.Omega.{arith}
-use borrow.Author.Rules.{rules}
 use Rattle.row_plan_model.specs.Pages.{page}
 use Rattle.row_plan_model.proofs.PageLaws.{end-figures}
 use Rattle.row_plan_model.proofs.Ends.{end_none, end-some}

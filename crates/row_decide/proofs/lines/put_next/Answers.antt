@@ -1,6 +1,4 @@
 -- `row_decide::lines::put_next` meets its contract. Assumes nothing.
-use mathlib.Core.Path.{refl}
-use borrow.Author.Rules.{rules}
 use Rattle.row_plan_model.specs.Pages.{page}
 use Rattle.row_plan_model.proofs.PageLaws.{pushed-made}
 use Rattle.row_decide.proofs.lines.put_next.Goals as goal

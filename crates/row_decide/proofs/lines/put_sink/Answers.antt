@@ -1,7 +1,5 @@
 -- `row_decide::lines::put_sink` meets its contract. Assumes nothing.
 use mathlib.Core.Path.{ap, ◌∙◌}
-use native.Mathlib.Omega.{arith}
-use borrow.Author.Rules.{rules}
 use Rattle.plan_model.specs.declared.Line.{Line}
 use Rattle.row_plan_model.specs.Pages.{page, pushed}
 use Rattle.row_plan_model.proofs.Ends.{sink-line-made}

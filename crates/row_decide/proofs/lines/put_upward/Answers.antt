@@ -1,16 +1,14 @@
 -- `row_decide::lines::put_upward` meets its contract. Assumes nothing.
-use mathlib.Core.Path.{◌≡◌, refl, sym, ap, ◌∙◌}
-use Prim.Native.Nat.{◌+◌, ◌-◌, ◌*◌, ◌≤◌, ◌<◌}
+use mathlib.Core.Path.{refl, sym, ap, ◌∙◌}
+use Prim.Native.Nat.{◌+◌, ◌-◌, ◌<◌}
 use native.Mathlib.Omega.{arith}
-use lib.ListN.{length}
-use borrow.Author.Rules.{rules}
 use Rattle.row_plan_model.proofs.Tables.{link-there}
 use Rattle.links.specs.declared.Figures.{Figures}
 use Rattle.plan_model.specs.declared.Kind.TheVariants.{Upward}
 use Rattle.plan_model.specs.Lines.{line}
 use Rattle.row_model.specs.Lines.{up_lines}
 use Rattle.row_plan_model.specs.Pages.{Page, page, pushed, filled}
-use Rattle.row_plan_model.proofs.PageLaws.{up-figures, up_start, up_step, up-end, filled-length}
+use Rattle.row_plan_model.proofs.PageLaws.{up-figures, up_step, up-end}
 use Rattle.row_decide.proofs.lines.put_upward.Goals as goal
 
 pub loop-n-preserved : goal.loop-n-preserved

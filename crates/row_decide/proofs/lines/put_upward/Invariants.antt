@@ -1,15 +1,8 @@
 -- What the loops of `row_decide::lines::put_upward` keep. Assumes nothing.
-use mathlib.Core.Path.{◌≡◌, refl, sym, ap, ◌∙◌}
-use Prim.Native.Nat.{◌+◌, ◌-◌, ◌*◌, ◌≤◌, ◌<◌}
-use native.Mathlib.Omega.{arith}
-use lib.ListN.{length}
-use Rattle.row_plan_model.proofs.Tables.{link-there}
-use Rattle.links.specs.declared.Figures.{Figures}
-use Rattle.plan_model.specs.declared.Kind.TheVariants.{Upward}
-use Rattle.plan_model.specs.Lines.{line}
+use mathlib.Core.Path.{◌≡◌}
+use Prim.Native.Nat.{◌+◌, ◌-◌, ◌*◌, ◌≤◌}
 use Rattle.row_model.specs.Lines.{up_lines}
-use Rattle.row_plan_model.specs.Pages.{Page, page, pushed, filled}
-use Rattle.row_plan_model.proofs.PageLaws.{up-figures, up_start, up_step, up-end, filled-length}
+use Rattle.row_plan_model.specs.Pages.{page, filled}
 use Rattle.row_decide.proofs.lines.put_upward.Given as goal
 
 abbrev pub invariant-loop-n : goal.invariant-loop-n
