@@ -2,7 +2,6 @@
 use mathlib.Core.Path.{sym, ◌∙◌}
 use native.Mathlib.Omega.{arith}
 use Rattle.row_program_model.proofs.Inputs.{too_long_lem, right-names, other-names}
-use borrow.Author.Rules.{rules}
 use Rattle.row_program.proofs.check_input.Goals as goal
 
 pub returns-then-input-gt-LIMIT : goal.returns-then-input-gt-LIMIT

@@ -2,7 +2,6 @@
 use mathlib.Core.Path.{ap, sym, ◌∙◌}
 use Rattle.row_read_model.specs.Names.{heading_of}
 use Rattle.row_program_model.proofs.Inputs.{no_names, first-names}
-use borrow.Author.Rules.{rules}
 use Rattle.row_program.proofs.heading_in.Goals as goal
 
 pub returns-in_default : goal.returns-in_default

@@ -1,7 +1,6 @@
 -- `row_program::line_end` meets its contract. Assumes nothing.
 use mathlib.Core.Path.{ap, sym}
 use Rattle.row_program_model.specs.Steps.{behind}
-use borrow.Author.Rules.{rules}
 use Rattle.row_program.proofs.line_end.Goals as goal
 
 pub returns-in-Found : goal.returns-in-Found

@@ -1,6 +1,5 @@
 -- `row_program::next_piece` meets its contract. Assumes nothing.
 use Rattle.row_program_model.specs.Steps.{step}
-use borrow.Author.Rules.{rules}
 use Rattle.row_program.proofs.next_piece.Goals as goal
 
 pub returns-then-from-clause-value : goal.returns-then-from-clause-value

@@ -1,10 +1,8 @@
 -- `row_program::next_row` meets its contract. Assumes nothing.
 use mathlib.Core.Path.{◌≡◌, ap, sym, ◌∙◌}
-use native.Mathlib.Omega.{arith}
 use Rattle.lines.specs.declared.Line.{Line}
 use Rattle.lines.specs.Text.{part_of}
 use Rattle.row_program_model.specs.Steps.{rows_from, row_at, piece}
-use borrow.Author.Rules.{rules}
 use Rattle.row_program.proofs.next_row.Goals as goal
 
 pub returns-in_default-clause-value : goal.returns-in_default-clause-value

@@ -1,10 +1,8 @@
 -- `row_program::open` meets its contract. Assumes nothing.
 use mathlib.Core.Path.{◌≡◌, sym, ◌∙◌}
-use native.Mathlib.Omega.{arith}
 use lib.ListN.{length}
 use Rattle.row_program_model.specs.Steps.{rows_from, piece}
 use Rattle.row_program_model.proofs.Inputs.{opening-refused, opening-named}
-use borrow.Author.Rules.{rules}
 use Rattle.row_program.proofs.open.Goals as goal
 
 pub returns-in-Broken-clause-value : goal.returns-in-Broken-clause-value

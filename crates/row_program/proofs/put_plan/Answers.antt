@@ -4,7 +4,6 @@ use mathlib.Core.List.{List}
 use Prim.Native.Nat.{ℕ}
 use lib.ListN.{length}
 use lib.Seq.{sets}
-use borrow.Author.Rules.{rules}
 use Rattle.row_answer_model.specs.Outcomes.{row_outcome}
 use Rattle.report_model.specs.Text.{text}
 use Rattle.program_model.proofs.PrintedAnswers.{refused-printed, planned-printed}

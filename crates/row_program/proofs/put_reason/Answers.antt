@@ -7,7 +7,6 @@ use Rattle.row_answer_model.specs.Outcomes.{row_outcome}
 use Rattle.reason_model.specs.Reasons.{verdict_line}
 use Rattle.line_table_model.specs.Rows.{row_table}
 use Rattle.row_program_model.proofs.Inputs.{spoken-verdict}
-use borrow.Author.Rules.{rules}
 use Rattle.row_program.proofs.put_reason.Goals as goal
 
 pub returns-clause-value : goal.returns-clause-value

@@ -1,7 +1,6 @@
 -- `row_program::put_refused` meets its contract. Assumes nothing.
 use Rattle.program_model.specs.Printed as program
 use Rattle.row_program_model.specs.Output.{printed}
-use borrow.Author.Rules.{rules}
 use Rattle.row_program.proofs.put_refused.Goals as goal
 
 pub returns-in-Plans-clause-value : goal.returns-in-Plans-clause-value

@@ -1,11 +1,9 @@
 -- `row_program::put_spoken` meets its contract. Assumes nothing.
 use mathlib.Core.Path.{sym, ◌∙◌}
-use native.Mathlib.Omega.{arith}
 use native.Mathlib.Nat.{zero-add}
 use Rattle.reason_model.specs.Reasons.{verdict_line}
 use Rattle.buffer.proofs.Behind.{Put, byte-behind, front_ends}
 use Rattle.row_program_model.proofs.Inputs.{ended-one}
-use borrow.Author.Rules.{rules}
 use Rattle.row_program.proofs.put_spoken.Goals as goal
 
 pub returns-clause-value : goal.returns-clause-value
