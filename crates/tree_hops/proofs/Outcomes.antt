@@ -9,7 +9,6 @@ use lib.Dec.{eqb}
 use lib.ListN.{length, take}
 use borrow.Author.Tests.{eq-eqb}
 use Rattle.refusals.specs.declared.Refusal.{Refusal}
-use Rattle.refusals.specs.declared.Verdict.{Verdict}
 use Rattle.refusals.specs.declared.Verdict.TheVariants.{Kept, Broken}
 use Rattle.refusals.specs.Outcome.{Planned, Refused}
 use Rattle.refusals.proofs.Answering.{verdict, answer-broken, answer-kept}

@@ -12,7 +12,6 @@ use Rattle.tree_plan_model.specs.Stages.{LoadsHeld}
 use Rattle.tree_plan_model.proofs.Tabled.{few-held, room-held}
 use Rattle.tree_ways.proofs.Staging.{kept-before-slots}
 use Rattle.tree_hops.proofs.Outcomes.{outcome-refused, outcome-planned, hops-asked, hops-put-all}
-use borrow.Author.Rules.{rules}
 use Rattle.tree_hops.proofs.hops_of.Goals as goal
 
 pub overflow_add-n : goal.overflow_add-n

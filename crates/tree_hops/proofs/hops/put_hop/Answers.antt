@@ -4,7 +4,6 @@ use Prim.Native.Nat.{◌*◌, ◌-◌}
 use native.Mathlib.Omega.{arith}
 use Rattle.tree_plan_model.proofs.Noting.{towards-noted}
 use Rattle.tree_hops.proofs.Hopping.{towards-low, superframe-low, hop-put}
-use borrow.Author.Rules.{rules}
 use Rattle.tree_hops.proofs.hops.put_hop.Goals as goal
 
 pub overflow_cast-towards_at : goal.overflow_cast-towards_at

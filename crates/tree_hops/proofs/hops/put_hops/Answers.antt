@@ -1,10 +1,6 @@
 -- `tree_hops::hops::put_hops` meets its contract. Assumes nothing.
-use mathlib.Core.Path.{◌≡◌, refl, ◌∙◌}
-use Prim.Native.Nat.{◌-◌, ◌≤◌}
+use mathlib.Core.Path.{refl, ◌∙◌}
 use native.Mathlib.Omega.{arith}
-use lib.ListN.{length}
-use lib.Seq.{sets}
-use Rattle.tree_plan_model.specs.Hops.{hops_by}
 use Rattle.tree_hops.proofs.Hopping.{hops-none, hops-put}
 use Rattle.tree_hops.proofs.hops.put_hops.Goals as goal
 

@@ -1,11 +1,9 @@
 -- What the loops of `tree_hops::hops::put_hops` keep. Assumes nothing.
-use mathlib.Core.Path.{◌≡◌, refl, ◌∙◌}
+use mathlib.Core.Path.{◌≡◌}
 use Prim.Native.Nat.{◌-◌, ◌≤◌}
-use native.Mathlib.Omega.{arith}
 use lib.ListN.{length}
 use lib.Seq.{sets}
 use Rattle.tree_plan_model.specs.Hops.{hops_by}
-use Rattle.tree_hops.proofs.Hopping.{hops-none, hops-put}
 use Rattle.tree_hops.proofs.hops.put_hops.Given as goal
 
 abbrev pub invariant-loop-v : goal.invariant-loop-v

@@ -1,7 +1,6 @@
 -- `tree_hops::hops::superframe_of` meets its contract. Assumes nothing.
 use Rattle.tree_plan_model.proofs.Noting.{superframe-read}
-use Rattle.tree_hops.proofs.Hopping.{hop-sink, hop-elsewhere}
-use borrow.Author.Rules.{rules}
+use Rattle.tree_hops.proofs.Hopping.{hop-elsewhere}
 use Rattle.tree_hops.proofs.hops.superframe_of.Goals as goal
 
 pub returns : goal.returns

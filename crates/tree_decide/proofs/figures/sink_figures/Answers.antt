@@ -1,0 +1,7 @@
+-- `tree_decide::figures::sink_figures` meets its contract. Assumes nothing.
+use Rattle.tree_decide.proofs.Lining.{sink-made}
+use borrow.Author.Rules.{rules}
+use Rattle.tree_decide.proofs.figures.sink_figures.Goals as goal
+
+pub returns : goal.returns
+returns c = sink-made c.args.t c.args.load _ c.whole_frames.ensures
