@@ -6,7 +6,6 @@ use native.Mathlib.Omega.{arith}
 use lib.ListN.{length, take}
 use Rattle.refusals.specs.declared.Verdict.{Verdict}
 use Rattle.refusals.specs.declared.Verdict.TheVariants.{Kept}
-use Rattle.refusals.proofs.Answering.{verdict}
 use Rattle.links.specs.declared.Timing.{Timing}
 use Rattle.settings_model.specs.declared.Radio.{Radio}
 use Rattle.plan_model.specs.Times.{timing_of}

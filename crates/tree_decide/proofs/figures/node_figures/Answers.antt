@@ -1,6 +1,5 @@
 -- `tree_decide::figures::node_figures` meets its contract. Assumes nothing.
 use Rattle.tree_decide.proofs.Lining.{figures-at-sink, figures-elsewhere}
-use borrow.Author.Rules.{rules}
 use Rattle.tree_decide.proofs.figures.node_figures.Goals as goal
 
 pub returns-then-v-sink : goal.returns-then-v-sink

@@ -1,6 +1,5 @@
 -- `tree_decide::figures::sink_figures` meets its contract. Assumes nothing.
 use Rattle.tree_decide.proofs.Lining.{sink-made}
-use borrow.Author.Rules.{rules}
 use Rattle.tree_decide.proofs.figures.sink_figures.Goals as goal
 
 pub returns : goal.returns

@@ -6,7 +6,6 @@ use Rattle.tree_plan_model.specs.Inner.{towards_in}
 use Rattle.tree_plan_model.proofs.Noting.{towards-noted}
 use Rattle.tree_children.proofs.Linking.{router-in}
 use Rattle.tree_decide.proofs.Lining.{kind-sink, kind-down, kind-up, kind-end}
-use borrow.Author.Rules.{rules}
 use Rattle.tree_decide.proofs.node_lines.kind_of.Goals as goal
 
 pub returns-then-v-sink : goal.returns-then-v-sink

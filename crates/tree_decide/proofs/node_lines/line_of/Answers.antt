@@ -8,7 +8,6 @@ use Rattle.measure.specs.declared.Symbols.{Symbols}
 use Rattle.tree_plan_model.specs.Inner.{load_in}
 use Rattle.tree_plan_model.proofs.Noting.{load-noted}
 use Rattle.tree_decide.proofs.Lining.{line_made}
-use borrow.Author.Rules.{rules}
 use Rattle.tree_decide.proofs.node_lines.line_of.Goals as goal
 
 pub node_figures-figures-requires : goal.node_figures-figures-requires

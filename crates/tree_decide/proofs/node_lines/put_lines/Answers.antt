@@ -1,13 +1,7 @@
 -- `tree_decide::node_lines::put_lines` meets its contract. Assumes nothing.
-use mathlib.Core.Path.{◌≡◌, refl, ◌∙◌}
-use Prim.Native.Nat.{◌-◌, ◌≤◌}
+use mathlib.Core.Path.{refl, ◌∙◌}
 use native.Mathlib.Omega.{arith}
-use lib.ListN.{length}
-use lib.Seq.{sets}
-use Rattle.node_table_model.specs.NodeRows.{tree_table}
-use Rattle.tree_plan_model.specs.Tables.{lines_in}
 use Rattle.tree_decide.proofs.Rowing.{lines_none, lines-put}
-use borrow.Author.Rules.{rules}
 use Rattle.tree_decide.proofs.node_lines.put_lines.Goals as goal
 
 pub loop-v-init : goal.loop-v-init

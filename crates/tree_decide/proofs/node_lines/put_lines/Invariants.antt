@@ -1,12 +1,10 @@
 -- What the loops of `tree_decide::node_lines::put_lines` keep. Assumes nothing.
-use mathlib.Core.Path.{◌≡◌, refl, ◌∙◌}
+use mathlib.Core.Path.{◌≡◌}
 use Prim.Native.Nat.{◌-◌, ◌≤◌}
-use native.Mathlib.Omega.{arith}
 use lib.ListN.{length}
 use lib.Seq.{sets}
 use Rattle.node_table_model.specs.NodeRows.{tree_table}
 use Rattle.tree_plan_model.specs.Tables.{lines_in}
-use Rattle.tree_decide.proofs.Rowing.{lines_none, lines-put}
 use Rattle.tree_decide.proofs.node_lines.put_lines.Given as goal
 
 abbrev pub invariant-loop-v : goal.invariant-loop-v
