@@ -1,18 +1,13 @@
 -- Texts put one behind another, and the position behind them. Assumes nothing.
 use mathlib.Core.Path.{◌≡◌, refl, ap, sym, ◌∙◌}
 use mathlib.Core.List.{List, [], ◌∷◌, ◌++◌}
-use Prim.Native.Nat.{ℕ, suc, ◌+◌, ◌≤◌, min}
+use Prim.Native.Nat.{ℕ, ◌+◌, ◌≤◌, min}
 use native.Mathlib.Omega.{arith}
 use native.Mathlib.Decide.{dec_le}
 use native.Mathlib.Nat.{zero-add}
 use lib.ListN.{length, length-append, set}
-use lib.Seq.{set_out, sets, length-sets}
-use Rattle.buffer.proofs.Putting.{sets-sets}
-
--- nothing is put behind the end
-sets-out : (e : List ℕ) (at : ℕ) (t : List ℕ) → length e ≤ at → sets e at t ≡ e
-sets-out e at [] h = refl
-sets-out e at (b ∷ bs) h = rw (set_out e at b h) (sets-out e (suc at) bs (omega arith))
+use lib.Seq.{sets, length-sets}
+use Rattle.buffer.proofs.Putting.{sets-out, sets-sets}
 
 -- so a position may be taken down to the end
 pub sets-lower : (e : List ℕ) (at k : ℕ) (t : List ℕ) → k ≡ min at (length e) → sets e k t ≡ sets e at t

@@ -1,10 +1,11 @@
 -- Bytes put one behind another, and all at once. Assumes nothing.
 use mathlib.Core.Path.{◌≡◌, refl, ap, sym, ◌∙◌}
 use mathlib.Core.List.{List, [], ◌∷◌, ◌++◌, append-nil, append_assoc}
-use Prim.Native.Nat.{ℕ, suc, ◌+◌, ◌-◌, ◌≤◌, ◌<◌}
+use Prim.Native.Nat.{ℕ, suc, ◌+◌, ◌-◌, ◌≤◌, ◌<◌, min}
+use native.Mathlib.Decide.{dec_le}
 use native.Mathlib.Omega.{arith}
-use lib.ListN.{length, get_or, take, drop, set, length-drop, drop_of_length-le}
-use lib.Seq.{sets, sets-eq, set_comm, take-suc, take_all, take-length, take_at, drop-drop, length-take-le}
+use lib.ListN.{length, take, drop, set, length-drop, drop_of_length-le, take-append-drop}
+use lib.Seq.{sets, sets-eq, set_comm, set_out, take_all, take_at, drop-drop, length-take-le, length-sets}
 
 -- bytes put behind bytes are both put
 pub sets-sets : (e : List ℕ) (at : ℕ) (t u : List ℕ) → sets (sets e at t) (at + length t) u ≡ sets e at (t ++ u)
@@ -31,13 +32,6 @@ sets-before e at (b ∷ bs) u =
     let z : at + suc (length bs) ≡ suc at + length bs = omega arith in
     rw (z, set_before e (suc at + length bs) u at b (omega arith)) (sets-before (set e at b) (suc at) bs u)
 
--- the next byte of a list put behind those before it
-pub sets-next : (e : List ℕ) (at : ℕ) (t : List ℕ) (k : ℕ) → k < length t
-    → set (sets e at (take k t)) (at + k) (get_or t k 0) ≡ sets e at (take (suc k) t)
-sets-next e at t k h =
-    let z : length (take k t) ≡ k = length-take-le k t (omega arith) in
-    rw (take-suc t k 0 h) (rw z at (sets-byte e at (take k t) (get_or t k 0)))
-
 -- bytes put at the front, where there is room for all
 pub sets-front : (e t : List ℕ) → length t ≤ length e → sets e 0 t ≡ t ++ drop (length t) e
 sets-front e t h =
@@ -48,18 +42,41 @@ sets-front e t h =
 pub put_front : (space e t : List ℕ) (n : ℕ) → n ≡ length t → n ≤ length e → space ≡ sets e 0 t → take n space ≡ t
 put_front space e t n q h w = rw (w, sets-front e t (omega (arith, q))) (take_at t (drop (length t) e) n (sym q))
 
--- bytes copied to the front of what lies behind a position, where there is room for all; p is what lies there then
-pub sets-copied : (e : List ℕ) (at : ℕ) (t p : List ℕ) → at ≤ length e → length t ≤ length e - at
-    → p ≡ take (length t) t ++ drop (length t) (take (length e - at) (drop at e))
-    → take at e ++ (p ++ drop (length e - at) (drop at e)) ≡ sets e at t
-sets-copied e at t p inside room q =
+-- nothing is put behind the end
+pub sets-out : (e : List ℕ) (at : ℕ) (t : List ℕ) → length e ≤ at → sets e at t ≡ e
+sets-out e at [] h = refl
+sets-out e at (b ∷ bs) h = rw (set_out e at b h) (sets-out e (suc at) bs (omega arith))
+
+-- so bytes that have no room may be left out
+sets-cut : (e : List ℕ) (at n : ℕ) (t : List ℕ) → n ≡ min (length t) (length e - at) → sets e at (take n t) ≡ sets e at t
+sets-cut e at n t q = by (dec_le (length t) n) where
+  by : Dec (length t ≤ n) → sets e at (take n t) ≡ sets e at t
+  by (yes h) = rw (take_all n t h)
+  by (no h) =
+      let l = length-take-le n t (omega arith) in
+      let z = length-sets e at (take n t) in
+      let s = sets-sets e at (take n t) (drop n t) in
+      let o = sets-out (sets e at (take n t)) (at + length (take n t)) (drop n t) (omega (arith, l, z, q)) in
+      sym o ∙ s ∙ ap (λ (u : List ℕ). sets e at u) (take-append-drop n t)
+
+-- bytes copied to the front of the rest behind a position, as far as there is room; p is what lies there then
+pub sets-copied : (e : List ℕ) (at n : ℕ) (t p : List ℕ) → at ≤ length e → n ≡ min (length t) (length (take (length e - at) (drop at e)))
+    → p ≡ take n t ++ drop n (take (length e - at) (drop at e)) → take at e ++ (p ++ drop (length e - at) (drop at e)) ≡ sets e at t
+sets-copied e at n t p inside q w =
+    let d = length-drop at e in
+    let rest = take_all (length e - at) (drop at e) (omega (arith, d)) in
+    let q' = rw (rest, d) at q in
+    let l = length-take-le n t (omega (arith, q')) in
+    sym (
     rw (
-      drop_of_length-le (drop at e) {i = length e - at} (omega (arith, length-drop at e)),
-      append-nil p,
-      q,
-      take-length t,
-      take_all (length e - at) (drop at e) (omega (arith, length-drop at e)),
-      drop-drop (length t) at e,
-      sets-eq t e at (omega arith),
-      append_assoc (take at e) t (drop (at + length t) e),
+      sym (sets-cut e at n t q'),
+      sets-eq (take n t) e at (omega (arith, l, q')),
+      l,
+      w,
+      rest,
+      drop_of_length-le (drop at e) {i = length e - at} (omega (arith, d)),
+      append-nil (take n t ++ drop n (drop at e)),
+      drop-drop n at e,
+      append_assoc (take at e) (take n t) (drop (at + n) e),
+    )
     )

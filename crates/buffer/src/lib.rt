@@ -13,36 +13,19 @@ use octets::copy;
 pub fn put_byte(out: &mut [u8], at: usize, k: usize, b: u8)
     ensures { out.new ≡ set out.old (at + k) b }
 {
-    if at < out.len() {
-        if k < out.len() - at {
-            out[at + k] = b;
-        }
+    if at < out.len() && k < out.len() - at {
+        out[at + k] = b;
     }
 }
 
-// Puts bytes at a position, as far as there is room, and answers how many they are. Where all have room they are copied at once, which is
-// faster than byte by byte.
+// Puts bytes at a position, as far as there is room, and answers how many they are. They are copied at once, which is faster than byte by
+// byte.
 pub fn put_bytes(out: &mut [u8], at: usize, text: &[u8]) -> usize
     ensures value { result ≡ length text.now }
     ensures out_after { out.new ≡ sets out.old at text.now }
 {
-    if at <= out.len() {
-        if text.len() <= out.len() - at {
-            return copy(text, &mut out[at..]);
-        }
+    if at < out.len() {
+        copy(text, &mut out[at..]);
     }
-    put_some(out, at, text)
-}
-
-// The same, byte by byte: those with room are put.
-fn put_some(out: &mut [u8], at: usize, text: &[u8]) -> usize
-    ensures value { result ≡ length text.now }
-    ensures out_after { out.new ≡ sets out.old at text.now }
-{
-    let mut k = 0;
-    while k < text.len() {
-        put_byte(out, at, k, text[k]);
-        k += 1;
-    }
-    k
+    text.len()
 }

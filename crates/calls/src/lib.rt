@@ -13,27 +13,27 @@ ghost use Rattle.calls_model.specs.Inner.{answer_of};
 ghost use Rattle.calls_model.specs.Exchanges.{exchange_asked};
 
 use calls_model::{Answer, Numbered};
-use plan_model::Plan;
-use reason_model::ReasonRead;
 use reason_print::put_reason;
-use refusals::{Refusal, Verdict};
+use refusals::Refusal;
+use superframe::exchange;
 
 // The answer to a plan: number 0 and the text's length, or number and place of the refusal.
-pub fn answer_of(plan: Plan) -> Answer
-    ensures { result ≡ answer_of plan }
+#[tactic(auto, unfolding(calls_model::specs::Inner::answer_of))]
+pub fn answer_of(planned: Result<usize, Refusal>) -> Answer
+    ensures { result ≡ answer_of planned }
 {
-    let verdict = plan.verdict;
-    if let Verdict::Broken(refusal) = verdict {
-        return refused(refusal);
-    }
-    Answer {
-        number: 0,
-        place: 0,
-        length: plan.length as u64,
+    match planned {
+        Ok(length) => Answer {
+            number: 0,
+            place: 0,
+            length: length as u64,
+        },
+        Err(refusal) => refused(refusal),
     }
 }
 
 // The answer to a refusal.
+#[tactic(auto, unfolding(calls_model::specs::Calls::answer_to_refusal))]
 pub fn refused(refusal: Refusal) -> Answer
     ensures { result ≡ answer_to_refusal refusal }
 {
@@ -45,6 +45,7 @@ pub fn refused(refusal: Refusal) -> Answer
 }
 
 // Puts a line at the front of the lent buffer, where it has room.
+#[tactic(auto, unfolding(calls_model::specs::Reasons::line_left))]
 pub fn leave(number: u32, place: u32, line: &[u8], out: &mut [u8]) -> Answer
     ensures { left result out.new ≡ line_left number place line.now out.old }
 {
@@ -69,53 +70,40 @@ pub fn explain_refusal(number: u32, place: u32, out: &mut [u8]) -> Answer
 }
 
 // Puts the line of a refusal by its number and place, and answers its length.
+#[tactic(auto, unfolding(calls_model::specs::Reasons::plain, calls_model::specs::Reasons::line_among, refusals::proofs::Computing::tabled))]
 fn put_plain(out: &mut [u8], number: u32, place: u32) -> usize
     ensures value { result ≡ length (line_among plain number place) }
     ensures upper_bound { result ≤ 160 }
     ensures out_after { out.new ≡ sets out.old 0 (line_among plain number place) }
 {
-    if 0 < place {
-        return 0;
+    match (number, place) {
+        (1, 0) => put_reason(out, Refusal::Names),
+        (8, 0) => put_reason(out, Refusal::LentTooShort),
+        (9, 0) => put_reason(out, Refusal::InputTooLong),
+        _ => 0,
     }
-    if number == 1 {
-        return put_reason(out, Refusal::Names);
-    }
-    if number == 8 {
-        return put_reason(out, Refusal::LentTooShort);
-    }
-    if number == 9 {
-        return put_reason(out, Refusal::InputTooLong);
-    }
-    0
 }
 
-// Number and place of a line without its LF.
+// Number and place of a line without its LF; 0 and 0 where it is no refusal's.
+#[tactic(auto, unfolding(calls_model::specs::Reasons::numbered))]
 pub fn read_reason(line: &[u8]) -> Numbered
     ensures { result ≡ numbered (read_reason line.now) }
 {
-    let reading = reason_read::read_reason(line);
-    match reading {
-        ReasonRead::Reason { number, place } => Numbered { number, place },
-        ReasonRead::NoReason => Numbered {
-            number: 0,
-            place: 0,
-        },
-    }
+    let (number, place) = match reason_read::read_reason(line) {
+        Some(reason) => (reason.number, reason.place),
+        None => (0, 0),
+    };
+    Numbered { number, place }
 }
 
 // X of a frame of that many octets, 6 to 127, without acknowledgement (ACK 0) or with (1). For any other: 0, which no exchange lasts.
+#[tactic(auto, using(calls_model::proofs::ExchangesAsked::exchange_inside, calls_model::proofs::ExchangesAsked::exchange_bound), unfolding(calls_model::specs::Exchanges::exchange_asked))]
 pub fn exchange_time(octets: u32, ack: u32) -> u32
     ensures value { result ≡ exchange_asked octets ack }
     ensures upper_bound { result ≤ 340 }
 {
-    if octets < 6 {
-        return 0;
+    match (octets, ack) {
+        (6..=127, 0 | 1) => exchange::exchange_time(u64::from(octets), ack == 1).0 as u32,
+        _ => 0,
     }
-    if 127 < octets {
-        return 0;
-    }
-    if 1 < ack {
-        return 0;
-    }
-    superframe::exchange::exchange_time(octets as u64, ack == 1).0 as u32
 }

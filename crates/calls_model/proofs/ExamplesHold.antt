@@ -1,13 +1,13 @@
 -- The examples of specs/Examples, computed. Assumes nothing.
-use mathlib.Core.Path.{◌≡◌, refl, sym, ◌∙◌}
+use mathlib.Core.Path.{◌≡◌, refl, sym, ap, ◌∙◌}
 use Prim.Native.Nat.{ℕ}
 use native.Mathlib.Omega.{arith}
 use lib.ListN.{take}
 use Rattle.decimal_model.specs.Ascii.{ascii}
 use Rattle.refusals.proofs.Computing.{tabled}
 use Rattle.refusals.specs.Conditions.{first_broken}
-use Rattle.reason_model.specs.declared.ReasonRead.TheVariants.{Reason}
-use Rattle.reason_model.specs.Reading.{read_reason}
+use Rattle.reason_model.specs.declared.Reason.{Reason}
+use Rattle.reason_model.specs.Reading.{read_reason, reason_at}
 use Rattle.reason_model.proofs.Computing.{worded, taken_in}
 use Rattle.calls_model.specs.Calls.{answer_to_refusal, answer_to, buffer_after, room, outcome_within, leaves}
 use Rattle.calls_model.specs.Reasons.{line_left, plain, line_among, explain_refusal, numbered}
@@ -32,12 +32,13 @@ spoken-hold = record {
   read_none = refl;
 }
 
-line_read : read_reason (take 82 line) ≡ Reason 7 0
+line_read : read_reason (take 82 line) ≡ reason_at 7 0
 unfolding taken_in line
 line_read = refl
 
 pub other-place-breaks : OtherPlaceBreaks
 other-place-breaks again =
     let e = sym line_read ∙ again (omega arith) (omega arith) in
-    let z : ◌≡◌ {A = ℕ} 0 1 = cc in
+    let both : ◌≡◌ {A = Reason} (record { number = 7; place = 0 }) (record { number = 7; place = 1 }) = cc in
+    let z : ◌≡◌ {A = ℕ} 0 1 = ap (λ (r : Reason). r.place) both in
     omega arith

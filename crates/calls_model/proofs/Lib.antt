@@ -13,3 +13,5 @@ pub mod ExamplesHold
 pub mod ExchangesAsked
 -- what is told of a decision and of the text alike
 pub mod Telling
+-- what a call leaves by a text that was put whole or not at all
+pub mod Fitting

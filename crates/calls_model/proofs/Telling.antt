@@ -1,4 +1,5 @@
 -- What an outcome is told as, whatever its plan is put as, and what a plan that is put whole or not at all leaves. Assumes nothing.
+use Rattle.std.specs.Prelude.{Result, Ok}
 use mathlib.Core.Path.{◌≡◌, refl, ◌∙◌}
 use mathlib.Core.Bool.{cond}
 use mathlib.Core.List.{List}
@@ -6,8 +7,9 @@ use Prim.Native.Nat.{ℕ, ◌≤◌, ◌<◌}
 use lib.Dec.{leb}
 use lib.ListN.{length}
 use borrow.Author.Tests.{le-leb, lt-leb}
+use Rattle.refusals.specs.declared.Refusal.{Refusal}
 use Rattle.refusals.specs.Outcome.{Outcome, Planned, Refused}
-use Rattle.plan_model.specs.Plans.{answer, planned, refused}
+use Rattle.plan_model.specs.Plans.{answer}
 use Rattle.calls_model.specs.Calls.{answer_to}
 
 module _ {P : Type 0} (f g : P → List ℕ) where
@@ -21,10 +23,11 @@ module _ {P : Type 0} (f g : P → List ℕ) where
   place_same (Planned p) = refl
   place_same (Refused r) = refl
 
-  pub verdict-same : (o : Outcome P) → (answer f o).verdict ≡ (answer g o).verdict
-  unfolding answer planned refused
-  verdict-same (Planned p) = refl
-  verdict-same (Refused r) = refl
+  -- also in a line that says nothing of the length
+  pub said-same : (say : Result ℕ Refusal → List ℕ) → ((m n : ℕ) → say (Ok m) ≡ say (Ok n)) → (o : Outcome P) → say (answer f o) ≡ say (answer g o)
+  unfolding answer
+  said-same say planned (Planned p) = planned (length (f p)) (length (g p))
+  said-same say planned (Refused r) = refl
 
 module _ (e text after : List ℕ) (n : ℕ) (w : after ≡ cond (leb n (length e)) text e) where
   pub within-room : n ≤ length e → after ≡ text

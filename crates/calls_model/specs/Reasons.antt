@@ -1,12 +1,11 @@
 -- What the entries for C that speak English answer and leave (document 02, E1): from bytes to bytes. Assumes nothing: these are definitions.
-use Rattle.std.specs.Prelude.{ℕ, ◌≤◌, ◌≡◌, cond, ◌&&◌, List, [], ◌∷◌, ◌++◌, ltb, eqb, length, take, drop}
+use Rattle.reason_model.specs.declared.Reason.{Reason}
+use Rattle.std.specs.Prelude.{ℕ, ◌≤◌, ◌≡◌, cond, ◌&&◌, List, [], ◌∷◌, ◌++◌, ltb, eqb, length, take, drop, Option, Some, None}
 use Rattle.refusals.specs.declared.Refusal.{Refusal}
 use Rattle.refusals.specs.declared.Refusal.TheVariants.{Names, LentTooShort, InputTooLong}
 use Rattle.refusals.specs.Refusals.{number_of, place_of}
-use Rattle.reason_model.specs.declared.ReasonRead.{ReasonRead}
-use Rattle.reason_model.specs.declared.ReasonRead.TheVariants.{Reason, NoReason}
 use Rattle.reason_model.specs.Reasons.{reason}
-use Rattle.reason_model.specs.Reading.{read_reason}
+use Rattle.reason_model.specs.Reading.{read_reason, reason_at}
 use Rattle.calls_model.specs.declared.Answer.{Answer}
 use Rattle.calls_model.specs.declared.Numbered.{Numbered}
 use Rattle.calls_model.specs.Calls.{answer_to_refusal, Left, left}
@@ -33,11 +32,11 @@ unfoldable pub explain_refusal : ℕ → ℕ → List ℕ → Left
 explain_refusal number place before = line_left 0 0 (line_among plain number place) before
 
 -- the entry that reads a line: number and place of the refusal whose line it is, 0 and 0 where it is none
-unfoldable pub numbered : ReasonRead → Numbered
-numbered (Reason n p) = record { number = n; place = p }
-numbered NoReason = record { number = 0; place = 0 }
+unfoldable pub numbered : Option Reason → Numbered
+numbered (Some r) = record { number = r.number; place = r.place }
+numbered None = record { number = 0; place = 0 }
 
 -- "From the line number and place can be had again": where a call answers a number other than 8, the line that it leaves is read as that
 -- number and its place
 abbrev pub ReadAgain : Answer → List ℕ → Type 0
-ReadAgain a buffer = 1 ≤ a.number → (a.number ≡ 8 → ⊥) → read_reason (take a.length buffer) ≡ Reason a.number a.place
+ReadAgain a buffer = 1 ≤ a.number → (a.number ≡ 8 → ⊥) → read_reason (take a.length buffer) ≡ reason_at a.number a.place

@@ -3,6 +3,7 @@
 #![tactic(auto)]
 
 // What a call answers: 0, 0 and the text's length where the row is planned; else number and place of the refusal, and 0.
+// Stays as it is: the C interface.
 #[repr(C)]
 #[derive(Clone, Copy)]
 pub struct Answer {
@@ -12,6 +13,7 @@ pub struct Answer {
 }
 
 // Number and place of a refusal; 0 and 0 where there is none.
+// Stays as it is: the C interface.
 #[repr(C)]
 #[derive(Clone, Copy)]
 pub struct Numbered {

@@ -10,72 +10,47 @@ ghost use Rattle.decimal_model.specs.Decimal.{decimal};
 ghost use Rattle.decimal_model.specs.Inner.{four};
 
 use buffer::put_byte;
-use decimal_model::Number;
 
-// The number that all of s spells: 1 to 4 digits, no leading zero except 0 itself, and no other byte.
-pub fn read_number(s: &[u8]) -> Number
+// The number that all of s spells, if it is one: 1 to 4 digits, no leading zero except 0 itself, and no other byte.
+pub fn read_number(s: &[u8]) -> Option<u64>
     ensures { result ≡ number_in s.now }
 {
     if !is_shaped(s) {
-        return Number::Unreadable;
+        return None;
     }
     let mut v: u64 = 0;
-    let mut i = 0;
-    while i < s.len() {
-        if !is_digit(s[i]) {
-            return Number::Unreadable;
+    for byte in s {
+        if !byte.is_ascii_digit() {
+            return None;
         }
-        v = 10 * v + (wide(s[i]) - 48);
-        i += 1;
+        v = 10 * v + u64::from(*byte - b'0');
     }
-    Number::Value(v)
+    Some(v)
 }
 
 // 1 to 4 bytes, of which the first is no zero that others follow.
 fn is_shaped(s: &[u8]) -> bool
     ensures { result ≡ shaped s.now }
 {
-    if s.len() < 1 {
-        return false;
+    match s {
+        [_] => true,
+        [first, _, ..] => s.len() <= 4 && *first != b'0',
+        [] => false,
     }
-    if 4 < s.len() {
-        return false;
-    }
-    if s.len() == 1 {
-        return true;
-    }
-    s[0] != 48
 }
 
 // An ASCII digit, 0 to 9.
 pub fn is_digit(b: u8) -> bool
     ensures { result ≡ digit b }
 {
-    if b < 48 {
-        return false;
-    }
-    b <= 57
+    b.is_ascii_digit()
 }
 
 // Whether all bytes are digits.
 pub fn all_digits(text: &[u8]) -> bool
     ensures { result ≡ digits text.now }
 {
-    let mut i = 0;
-    while i < text.len() {
-        if !is_digit(text[i]) {
-            return false;
-        }
-        i += 1;
-    }
-    true
-}
-
-// A byte as a number.
-fn wide(b: u8) -> u64
-    ensures { (result ≡ b) × (result < 256) }
-{
-    b as u64
+    text.iter().all(u8::is_ascii_digit)
 }
 
 // Puts a number in decimal at a position of lent memory, as far as there is room, and answers how many digits it has. Four digits are put
@@ -94,7 +69,7 @@ pub fn put_number(out: &mut [u8], at: usize, n: u64) -> usize
     while 10000 <= rest {
         k -= 4;
         put_four(out, at, k, rest % 10000);
-        rest = rest / 10000;
+        rest /= 10000;
     }
     put_few(out, at, rest);
     count
@@ -104,30 +79,10 @@ pub fn put_number(out: &mut [u8], at: usize, n: u64) -> usize
 pub fn digits_of(n: u64) -> usize
     ensures { result ≡ length (decimal n) }
 {
-    let mut k = 0;
-    let mut rest = n;
-    while 10000 <= rest {
-        k += 4;
-        rest = rest / 10000;
+    match n.checked_ilog10() {
+        Some(k) => k as usize + 1,
+        None => 1,
     }
-    k + few_digits(rest)
-}
-
-// How many digits a number of up to four has.
-fn few_digits(n: u64) -> usize
-    requires { n < 10000 }
-    ensures { result ≡ length (decimal n) }
-{
-    if n < 10 {
-        return 1;
-    }
-    if n < 100 {
-        return 2;
-    }
-    if n < 1000 {
-        return 3;
-    }
-    4
 }
 
 // Puts the rest, a number of up to four digits, in decimal at a position.
@@ -135,22 +90,19 @@ fn put_few(out: &mut [u8], at: usize, rest: u64)
     requires { rest < 10000 }
     ensures { out.new ≡ sets out.old at (decimal rest) }
 {
-    if rest < 10 {
-        put_digit(out, at, 0, rest);
-        return;
+    match rest {
+        0..=9 => put_digit(out, at, 0, rest),
+        10..=99 => {
+            put_digit(out, at, 0, rest / 10);
+            put_digit(out, at, 1, rest % 10);
+        }
+        100..=999 => {
+            put_digit(out, at, 0, rest / 100);
+            put_digit(out, at, 1, rest / 10 % 10);
+            put_digit(out, at, 2, rest % 10);
+        }
+        _ => put_four(out, at, 0, rest),
     }
-    if rest < 100 {
-        put_digit(out, at, 0, rest / 10);
-        put_digit(out, at, 1, rest % 10);
-        return;
-    }
-    if rest < 1000 {
-        put_digit(out, at, 0, rest / 100);
-        put_digit(out, at, 1, rest / 10 % 10);
-        put_digit(out, at, 2, rest % 10);
-        return;
-    }
-    put_four(out, at, 0, rest);
 }
 
 // Puts four digits, zeros in front included, k places behind a position. (A number of 64 bits has at most 20 digits.)
@@ -172,5 +124,5 @@ fn put_digit(out: &mut [u8], at: usize, k: usize, d: u64)
     requires { d < 10 }
     ensures { out.new ≡ set out.old (at + k) (48 + d) }
 {
-    put_byte(out, at, k, 48 + d as u8);
+    put_byte(out, at, k, b'0' + d as u8);
 }

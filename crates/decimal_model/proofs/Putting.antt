@@ -1,7 +1,8 @@
 -- A number put in decimal, four digits at a time, and its digits counted. Assumes nothing.
 use mathlib.Core.Path.{◌≡◌, ap, ◌∙◌}
 use mathlib.Core.List.{List, [], ◌∷◌, ◌++◌, append_assoc}
-use Prim.Native.Nat.{ℕ, suc, ◌+◌, ◌/◌, ◌%◌, ◌≤◌, ◌<◌}
+use Prim.Native.Nat.{ℕ, zero, suc, ◌+◌, ◌*◌, ◌/◌, ◌%◌, ◌^◌, ◌≤◌, ◌<◌}
+use native.Mathlib.Nat.{pow-suc, pow-le-pow_right}
 use native.Mathlib.Omega.{arith}
 use lib.ListN.{length, set, length-append}
 use lib.Seq.{sets}
@@ -36,18 +37,18 @@ decimal-four n h =
     rw (decimal-two n (omega arith), decimal-two (n / 100) (omega arith), z, a, b, c, d)
     (append_assoc (decimal (n / 10000)) _ _)
 
--- how many digits there are: 1 to 4, or four more than of n / 10000
+-- how many digits there are: one, one more than the largest power of ten that is not above n says, or four more than of n / 10000
 pub length-one : (n : ℕ) → n < 10 → 1 ≡ length (decimal n)
 length-one n h = rw (decimal-small n h)
 
-pub length_two : (n : ℕ) → 10 ≤ n → n < 100 → 2 ≡ length (decimal n)
-length_two n l h = omega (arith, decimal-step-length n l, length-one (n / 10) (omega arith))
-
-pub length_three : (n : ℕ) → 100 ≤ n → n < 1000 → 3 ≡ length (decimal n)
-length_three n l h = omega (arith, decimal-step-length n (omega arith), length_two (n / 10) (omega arith) (omega arith))
-
-pub length-four : (n : ℕ) → 1000 ≤ n → n < 10000 → 4 ≡ length (decimal n)
-length-four n l h = omega (arith, decimal-step-length n (omega arith), length_three (n / 10) (omega arith) (omega arith))
+pub length-power : (k n : ℕ) → 10 ^ k ≤ n → n < 10 * 10 ^ k → k + 1 ≡ length (decimal n)
+length-power zero n l h = length-one n (omega arith)
+length-power (suc k) n l h =
+    let p = pow-suc 10 k in
+    let z : 0 < 10 = omega arith in
+    let o : 1 ≤ suc k = omega arith in
+    let ten : 10 ^ 1 ≤ 10 ^ suc k = pow-le-pow_right z o in
+    omega (arith, decimal-step-length n (omega arith), length-power k (n / 10) (omega arith) (omega arith))
 
 pub length_more : (n : ℕ) → 10000 ≤ n → length (decimal n) ≡ length (decimal (n / 10000)) + 4
 unfolding four

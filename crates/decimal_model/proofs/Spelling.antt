@@ -1,4 +1,5 @@
 -- Digits and what they spell, byte by byte. Assumes nothing.
+use Rattle.std.specs.Prelude.{Option, Some, None}
 use mathlib.Core.Path.{◌≡◌, refl, ap, sym}
 use mathlib.Core.Bool.{Bool, true, false, not, cond, ◌&&◌, and-eq-true_iff, and-false, false≢true}
 use mathlib.Core.List.{List, [], ◌∷◌}
@@ -10,8 +11,6 @@ use lib.Dec.{leb, eqb}
 use lib.ListN.{length, get_or, drop}
 use lib.Seq.{drop-cons}
 use borrow.Author.Tests.{leb-true, le-leb}
-use Rattle.decimal_model.specs.declared.Number.{Number}
-use Rattle.decimal_model.specs.declared.Number.TheVariants.{Value, Unreadable}
 use Rattle.decimal_model.specs.Number.{digit, digits, zero_led, shaped, readable, spelled_after, spelled, number_in}
 
 -- a digit is one of the bytes 48 to 57
@@ -61,46 +60,46 @@ shaped-length s e =
     (leb-true 1 (length s) g.0, leb-true (length s) 4 g.1)
 
 -- what is not shaped as a number is none
-pub unshaped : (s : List ℕ) → shaped s ≡ false → number_in s ≡ Unreadable
+pub unshaped : (s : List ℕ) → shaped s ≡ false → number_in s ≡ None
 unfolding number_in readable
 unshaped s e = rw e
 
 -- a byte that is no digit
-pub undigit : (s : List ℕ) (i : ℕ) → i < length s → digit (get_or s i 0) ≡ false → digits (drop i s) ≡ digits s → number_in s ≡ Unreadable
+pub undigit : (s : List ℕ) (i : ℕ) → i < length s → digit (get_or s i 0) ≡ false → digits (drop i s) ≡ digits s → number_in s ≡ None
 unfolding number_in readable
 undigit s i h e d =
     let f : digits s ≡ false = let q = digits_step s i h in let q' = rw e at q in cc in
     rw (f, and-false)
 
 -- digits alone
-pub spells : (s : List ℕ) (v : ℕ) → shaped s ≡ true → digits s ≡ true → v ≡ spelled s → Value v ≡ number_in s
+pub spells : (s : List ℕ) (v : ℕ) → shaped s ≡ true → digits s ≡ true → v ≡ spelled s → Some v ≡ number_in s
 unfolding number_in readable
 spells s v e d q = rw (e, d, q)
 
 -- bytes that give a number are readable and spell it
-pub number_read : (s : List ℕ) (v : ℕ) → number_in s ≡ Value v → (readable s ≡ true) × (v ≡ spelled s)
+pub number_read : (s : List ℕ) (v : ℕ) → number_in s ≡ Some v → (readable s ≡ true) × (v ≡ spelled s)
 unfolding number_in
 number_read s v = by (readable s) where
-  value : Number → ℕ
-  value (Value n) = n
-  value Unreadable = 0
+  value : Option ℕ → ℕ
+  value (Some n) = n
+  value None = 0
 
-  read : Number → Bool
-  read (Value n) = true
-  read Unreadable = false
+  read : Option ℕ → Bool
+  read (Some n) = true
+  read None = false
 
-  by : (b : Bool) → cond b (Value (spelled s)) Unreadable ≡ Value v → (b ≡ true) × (v ≡ spelled s)
+  by : (b : Bool) → cond b (Some (spelled s)) None ≡ Some v → (b ≡ true) × (v ≡ spelled s)
   by true e = (refl, sym (ap value e))
   by false e = (ap read e, absurd (false≢true (ap read e)))
 
 -- bytes that give none are not readable
-pub number-none : (s : List ℕ) → number_in s ≡ Unreadable → readable s ≡ false
+pub number-none : (s : List ℕ) → number_in s ≡ None → readable s ≡ false
 unfolding number_in
 number-none s = by (readable s) where
-  read : Number → Bool
-  read (Value n) = true
-  read Unreadable = false
+  read : Option ℕ → Bool
+  read (Some n) = true
+  read None = false
 
-  by : (b : Bool) → cond b (Value (spelled s)) Unreadable ≡ Unreadable → b ≡ false
+  by : (b : Bool) → cond b (Some (spelled s)) None ≡ None → b ≡ false
   by true e = ap read e
   by false e = refl

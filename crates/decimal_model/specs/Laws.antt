@@ -1,6 +1,5 @@
 -- What holds of numbers in decimal, for the layers above. Assumes nothing: these are statements; proofs/Writing proves them.
-use Rattle.std.specs.Prelude.{◌≡◌, true, false, List, ℕ, ◌≤◌, ◌<◌, ◌^◌, length}
-use Rattle.decimal_model.specs.declared.Number.TheVariants.{Value}
+use Rattle.std.specs.Prelude.{◌≡◌, true, false, List, ℕ, ◌≤◌, ◌<◌, ◌^◌, length, Some}
 use Rattle.decimal_model.specs.Number.{digits, zero_led, spelled, number_in}
 use Rattle.decimal_model.specs.Decimal.{decimal}
 
@@ -24,7 +23,7 @@ WrittenApart = (m n : ℕ) → decimal m ≡ decimal n → m ≡ n
 
 -- a number of up to four digits is read back as itself
 abbrev pub ReadBack : Type 0
-ReadBack = (n : ℕ) → n < 10000 → number_in (decimal n) ≡ Value n
+ReadBack = (n : ℕ) → n < 10000 → number_in (decimal n) ≡ Some n
 
 -- a number of 64 bits has 1 to 20 digits
 abbrev pub AtMostTwenty : Type 0

@@ -1,7 +1,5 @@
 -- The number that bytes spell (document 01, 'Rows of settings'). Assumes nothing: these are definitions.
-use Rattle.std.specs.Prelude.{ℕ, ◌+◌, ◌-◌, ◌*◌, Bool, true, false, not, cond, ◌&&◌, List, [], ◌∷◌, leb, eqb, length}
-use Rattle.decimal_model.specs.declared.Number.{Number}
-use Rattle.decimal_model.specs.declared.Number.TheVariants.{Value, Unreadable}
+use Rattle.std.specs.Prelude.{ℕ, ◌+◌, ◌-◌, ◌*◌, Bool, true, false, not, cond, ◌&&◌, List, [], ◌∷◌, leb, eqb, length, Option, Some, None}
 
 -- b is an ASCII digit, 0 to 9
 abbrev pub digit : ℕ → Bool
@@ -36,5 +34,5 @@ abbrev pub spelled : List ℕ → ℕ
 spelled s = spelled_after 0 s
 
 -- the number that all of these bytes spell, if they are readable
-unfoldable pub number_in : List ℕ → Number
-number_in s = cond (readable s) (Value (spelled s)) Unreadable
+unfoldable pub number_in : List ℕ → Option ℕ
+number_in s = cond (readable s) (Some (spelled s)) None

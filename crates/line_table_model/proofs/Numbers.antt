@@ -1,11 +1,14 @@
 -- The numbers of one line, as they are put and read. Assumes nothing.
 use mathlib.Core.Path.{◌≡◌, refl, sym, ◌∙◌}
-use mathlib.Core.List.{List, [], ◌∷◌, ◌++◌}
-use Prim.Native.Nat.{ℕ, suc, ◌+◌, ◌≤◌, min}
+use mathlib.Core.List.{List, ◌++◌}
+use Prim.Native.Nat.{ℕ, ◌+◌, ◌≤◌, ◌<◌, min}
 use native.Mathlib.Decide.{dec_le}
 use native.Mathlib.Omega.{arith}
-use lib.ListN.{length, get_or, get_or-eq_default}
-use lib.Seq.{sets, set_out, get_or-append-add}
+use lib.ListN.{length, get_or, take, drop, set}
+use native.Mathlib.Numerals.{add-one}
+use lib.Seq.{sets, set_out, take-suc, length-take-le, get_or-append-add}
+use Rattle.buffer.proofs.Putting.{sets-byte}
+use Rattle.std.proofs.lemmas.List.{get_or-drop}
 use Rattle.measure.specs.Measures.{symbols, slots, frames, frame_symbols, per_interval}
 use Rattle.plan_model.specs.declared.Kind.{Kind}
 use Rattle.plan_model.specs.declared.Kind.TheVariants.{EndNode, Upward, Downward, Sink}
@@ -15,26 +18,19 @@ use Rattle.line_table_model.specs.Rows.{code_of, kind_from, numbers_of, line_in}
 
 -- ---- as the functions put and read them
 
--- a number put behind the end leaves the table as it was
-pub number-out : (t : List ℕ) (at x : ℕ) → length t ≤ at → t ≡ sets t at (x ∷ [])
-number-out t at x h = sym (set_out t at x h)
+-- a place above m counts as m, where a table of at most m numbers has no room either
+pub set-lowered : (e : List ℕ) (m p q x : ℕ) → length e ≤ m → q ≡ min p m → set e q x ≡ set e p x
+set-lowered e m p q x h z = by (dec_le p m) where
+  by : Dec (p ≤ m) → set e q x ≡ set e p x
+  by (yes l) = let w : q ≡ p = omega arith in rw w
+  by (no l) = set_out e q x (omega arith) ∙ sym (set_out e p x (omega arith))
 
--- nine numbers, put one behind another, are the line's
-pub numbers-put : (at c : ℕ) (l : Line) (t0 t1 t2 t3 t4 t5 t6 t7 t8 t : List ℕ) → c ≡ code_of l.kind → t1 ≡ sets t0 at (c ∷ []) → t2 ≡ sets t1 (at + 1) (l.depth ∷ [])
-    → t3 ≡ sets t2 (at + 2) (l.figures.rate.0 ∷ []) → t4 ≡ sets t3 (at + 3) (l.figures.burst.0 ∷ []) → t5 ≡ sets t4 (at + 4) (l.figures.slots.0 ∷ [])
-    → t6 ≡ sets t5 (at + 5) (l.figures.frames.0 ∷ []) → t7 ≡ sets t6 (at + 6) (l.figures.latency.0 ∷ []) → t8 ≡ sets t7 (at + 7) (l.figures.buffer.0 ∷ [])
-    → t ≡ sets t8 (at + 8) (l.figures.delay.0 ∷ []) → t ≡ sets t0 at (numbers_of l)
-unfolding numbers_of
-numbers-put at c l t0 t1 t2 t3 t4 t5 t6 t7 t8 t ec e1 e2 e3 e4 e5 e6 e7 e8 e =
-    let p1 : at + 1 ≡ suc at = omega arith in
-    let p2 : at + 2 ≡ suc (suc at) = omega arith in
-    let p3 : at + 3 ≡ suc (suc (suc at)) = omega arith in
-    let p4 : at + 4 ≡ suc (suc (suc (suc at))) = omega arith in
-    let p5 : at + 5 ≡ suc (suc (suc (suc (suc at)))) = omega arith in
-    let p6 : at + 6 ≡ suc (suc (suc (suc (suc (suc at))))) = omega arith in
-    let p7 : at + 7 ≡ suc (suc (suc (suc (suc (suc (suc at)))))) = omega arith in
-    let p8 : at + 8 ≡ suc (suc (suc (suc (suc (suc (suc (suc at))))))) = omega arith in
-    cc
+-- one number more, put behind those before it
+pub numbers-next : (e : List ℕ) (at : ℕ) (ns : List ℕ) (k : ℕ) → k < length ns → set (sets e at (take k ns)) (at + k) (get_or ns k 0) ≡ sets e at (take (k + 1) ns)
+numbers-next e at ns k h =
+    let z : length (take k ns) ≡ k = length-take-le k ns (omega arith) in
+    let w = rw z at (sets-byte e at (take k ns) (get_or ns k 0)) in
+    rw (add-one k, take-suc ns k 0 h) w
 
 -- a line made of nine numbers as they were read is the one at that position
 pub line_made : (ns : List ℕ) (at : ℕ) (k : Kind) (d a b s f l u y : ℕ) → k ≡ kind_from (get_or ns at 0) → d ≡ get_or ns (at + 1) 0 → a ≡ get_or ns (at + 2) 0 → b ≡ get_or ns (at + 3) 0
@@ -52,12 +48,9 @@ line_same ns ms at to e =
     let first : get_or ns at 0 ≡ get_or ms to 0 = rw (a, t) at (e 0) in
     rw (first, e 1, e 2, e 3, e 4, e 5, e 6, e 7, e 8)
 
--- a position behind the end counts as the end
-pub line-lower : (ns : List ℕ) (at k : ℕ) → k ≡ min at (length ns) → line_in ns k ≡ line_in ns at
-line-lower ns at k q = by (dec_le at (length ns)) where
-  by : Dec (at ≤ length ns) → line_in ns k ≡ line_in ns at
-  by (yes h) = let z : k ≡ at = omega arith in rw z
-  by (no h) = line_same ns ns k at (λ j. get_or-eq_default ns 0 (omega arith) ∙ sym (get_or-eq_default ns 0 (omega arith)))
+-- so the line at a position is the first of what stands from there on
+pub line-dropped : (ns : List ℕ) (at : ℕ) → line_in (drop at ns) 0 ≡ line_in ns at
+line-dropped ns at = line_same (drop at ns) ns 0 at (λ k. let z : 0 + k ≡ k = omega arith in rw z (get_or-drop at ns k 0))
 
 -- ---- read back
 

@@ -1,6 +1,6 @@
 -- The laws of specs/Laws. Assumes nothing.
+use Rattle.std.proofs.lemmas.Option.{same_Some}
 use mathlib.Core.Path.{◌≡◌, refl, ap, sym, ◌∙◌, subst}
-use mathlib.Core.Bool.{Bool, true, false, false≢true}
 use mathlib.Core.List.{List, [], ◌∷◌}
 use Prim.Native.Nat.{ℕ, ◌+◌, ◌-◌, ◌≤◌, ◌<◌, min}
 use native.Mathlib.Omega.{arith}
@@ -8,9 +8,7 @@ use native.Mathlib.Decide.{dec_le}
 use lib.ListN.{length, take, drop, length-drop}
 use borrow.Author.Tests.{le-leb}
 use Rattle.octets.specs.Bytes.{index_of}
-use Rattle.lines.specs.declared.Cursor.{Cursor}
 use Rattle.lines.specs.declared.Line.{Line}
-use Rattle.lines.specs.declared.Line.TheVariants.{Found, Nothing}
 use Rattle.lines.specs.Text.{lines, part_of}
 use Rattle.lines.specs.Laws.{Advances, FoundAdvances, NothingIsLeft}
 use Rattle.lines.proofs.Cutting.{index-le, lines-past, lines_step}
@@ -43,36 +41,19 @@ module _ (text : List ℕ) (at end : ℕ) (h : at < length text) (e : end ≡ at
     first = rw is-part (lines_step text at end h e ∙ ap (λ (ls : List (List ℕ)). take (end - at) (drop at text) ∷ ls) rest_lines);
   }
 
-start_of : Line → ℕ
-start_of (Found a b n) = a
-start_of Nothing = 0
-
-end_of : Line → ℕ
-end_of (Found a b n) = b
-end_of Nothing = 0
-
-next_of : Line → Cursor
-next_of (Found a b n) = n
-next_of Nothing = record { at = 0 }
-
-is_found : Line → Bool
-is_found (Found a b n) = true
-is_found Nothing = false
-
 pub found-advances : FoundAdvances
-unfolding start_of end_of next_of is_found
 found-advances text at start end next q = by (dec_le (length text) at) where
   by : Dec (length text ≤ at) → Advances text at start end next
-  by (yes l) = absurd (false≢true (ap is_found (sym (line-none text at l) ∙ q)))
+  by (yes l) = absurd (let e = line-none text at l in cc)
   by (no n) =
       let h : at < length text = omega arith in
-      let f = sym (line-found text at (at + index_of 10 (drop at text)) h refl) ∙ q in
+      let f = line-found text at (at + index_of 10 (drop at text)) h refl in
+      let line = same_Some _ _ (sym f ∙ q) in
       let a = advances text at (at + index_of 10 (drop at text)) h refl in
-      subst (λ (l : Line). Advances text at (start_of l) (end_of l) (next_of l)) f a
+      subst (λ (l : Line). Advances text at l.start l.end l.next) line a
 
 pub nothing-is-left : NothingIsLeft
-unfolding is_found
 nothing-is-left text at q = by (dec_le (length text) at) where
   by : Dec (length text ≤ at) → lines (drop at text) ≡ []
   by (yes l) = lines-past text at l
-  by (no n) = absurd (false≢true (ap is_found (sym q ∙ line-found text at (at + index_of 10 (drop at text)) (omega arith) refl)))
+  by (no n) = absurd (let f = line-found text at (at + index_of 10 (drop at text)) (omega arith) refl in cc)

@@ -1,7 +1,6 @@
 -- Small texts and their lines and values, computed in one table. Assumes nothing.
-use Rattle.std.specs.Prelude.{◌≡◌, true, false, [], ◌∷◌, ℕ}
-use Rattle.lines.specs.declared.Line.TheVariants.{Found, Nothing}
-use Rattle.lines.specs.Text.{fields, joined, lines, ended, line_at, part_of}
+use Rattle.std.specs.Prelude.{◌≡◌, true, false, [], ◌∷◌, ℕ, None}
+use Rattle.lines.specs.Text.{fields, joined, lines, ended, line_at, part_of, found}
 use Rattle.lines.specs.Laws.{lacks, all_lack}
 
 -- bytes a and b, a space and the line end LF
@@ -34,10 +33,10 @@ pub record Examples : Type 0 where
   pub space_behind : fields (a ∷ sp ∷ []) ≡ (a ∷ []) ∷ [] ∷ []
   pub feed_inside : fields (a ∷ lf ∷ b ∷ []) ≡ (a ∷ lf ∷ b ∷ []) ∷ []
   -- the line at a position, and a part
-  pub first_line : line_at (a ∷ b ∷ lf ∷ a ∷ []) 0 ≡ Found 0 2 (record { at = 3 })
-  pub last_line : line_at (a ∷ b ∷ lf ∷ a ∷ []) 3 ≡ Found 3 4 (record { at = 4 })
-  pub past_last : line_at (a ∷ b ∷ lf ∷ a ∷ []) 4 ≡ Nothing
-  pub past_text : line_at (a ∷ b ∷ lf ∷ a ∷ []) 9 ≡ Nothing
+  pub first_line : line_at (a ∷ b ∷ lf ∷ a ∷ []) 0 ≡ found 0 2 (record { at = 3 })
+  pub last_line : line_at (a ∷ b ∷ lf ∷ a ∷ []) 3 ≡ found 3 4 (record { at = 4 })
+  pub past_last : line_at (a ∷ b ∷ lf ∷ a ∷ []) 4 ≡ None
+  pub past_text : line_at (a ∷ b ∷ lf ∷ a ∷ []) 9 ≡ None
   pub inside : part_of (a ∷ b ∷ lf ∷ a ∷ []) 1 3 ≡ b ∷ lf ∷ []
   pub end_before_start : part_of (a ∷ b ∷ lf ∷ a ∷ []) 3 1 ≡ []
   pub end_past_text : part_of (a ∷ b ∷ lf ∷ a ∷ []) 1 5 ≡ []

@@ -1,8 +1,7 @@
 -- What holds of lines, for the layers above. Assumes nothing: these are statements; proofs/Joining, Parting and LawsHold prove them.
-use Rattle.std.specs.Prelude.{◌≡◌, Bool, true, not, ◌&&◌, List, [], ◌∷◌, ◌++◌, ℕ, ◌≤◌, ◌<◌, eqb, length, drop}
+use Rattle.std.specs.Prelude.{◌≡◌, Bool, true, not, ◌&&◌, List, [], ◌∷◌, ◌++◌, ℕ, ◌≤◌, ◌<◌, eqb, length, drop, None}
 use Rattle.lines.specs.declared.Cursor.{Cursor}
-use Rattle.lines.specs.declared.Line.TheVariants.{Found, Nothing}
-use Rattle.lines.specs.Text.{fields, joined, lines, ended, line_at, part_of}
+use Rattle.lines.specs.Text.{fields, joined, lines, ended, line_at, part_of, found}
 
 -- a line is its values with one space between
 abbrev pub LineOfValues : Type 0
@@ -42,8 +41,8 @@ pub record Advances (text : List ℕ) (at start end : ℕ) (next : Cursor) : Typ
 
 abbrev pub FoundAdvances : Type 0
 FoundAdvances =
-    (text : List ℕ) (at start end : ℕ) (next : Cursor) → line_at text at ≡ Found start end next → Advances text at start end next
+    (text : List ℕ) (at start end : ℕ) (next : Cursor) → line_at text at ≡ found start end next → Advances text at start end next
 
 -- where nothing is found no line is left
 abbrev pub NothingIsLeft : Type 0
-NothingIsLeft = (text : List ℕ) (at : ℕ) → line_at text at ≡ Nothing → lines (drop at text) ≡ []
+NothingIsLeft = (text : List ℕ) (at : ℕ) → line_at text at ≡ None → lines (drop at text) ≡ []

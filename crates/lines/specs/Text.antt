@@ -1,7 +1,7 @@
 -- Lines of a text and values of a line (document 01, 'Rows of settings'). Assumes nothing: these are definitions.
-use Rattle.std.specs.Prelude.{ℕ, ◌+◌, ◌-◌, min, Bool, true, false, cond, ◌&&◌, List, [], ◌∷◌, ◌++◌, leb, eqb, length, take, drop}
+use Rattle.lines.specs.declared.Cursor.{Cursor}
+use Rattle.std.specs.Prelude.{ℕ, ◌+◌, ◌-◌, min, Bool, true, false, cond, ◌&&◌, List, [], ◌∷◌, ◌++◌, leb, eqb, length, take, drop, Option, Some, None}
 use Rattle.lines.specs.declared.Line.{Line}
-use Rattle.lines.specs.declared.Line.TheVariants.{Found, Nothing}
 
 -- two texts are the same, byte by byte
 unfoldable pub same : List ℕ → List ℕ → Bool
@@ -41,13 +41,17 @@ unfoldable pub ended : List (List ℕ) → List ℕ
 ended [] = []
 ended (l ∷ ls) = l ++ 10 ∷ ended ls
 
+-- a line that starts at start and ends before end, and what is behind it
+abbrev pub found : ℕ → ℕ → Cursor → Option Line
+found start end next = Some (record { start = start; end = end; next = next })
+
 -- what stands at a position of a text of that size, from the lines of the rest
-unfoldable pub first_line : List (List ℕ) → ℕ → ℕ → Line
-first_line [] at size = Nothing
-first_line (l ∷ ls) at size = Found at (at + length l) (record { at = min (at + length l + 1) size })
+unfoldable pub first_line : List (List ℕ) → ℕ → ℕ → Option Line
+first_line [] at size = None
+first_line (l ∷ ls) at size = found at (at + length l) (record { at = min (at + length l + 1) size })
 
 -- the line at a position of a text, and the position behind it and its LF
-unfoldable pub line_at : List ℕ → ℕ → Line
+unfoldable pub line_at : List ℕ → ℕ → Option Line
 line_at text at = first_line (lines (drop at text)) at (length text)
 
 -- the bytes from start up to, not including, end; none where the text has no such part

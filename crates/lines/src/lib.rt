@@ -15,52 +15,32 @@ pub struct Cursor {
     pub at: usize,
 }
 
-// What stands at a cursor.
+// A line: it starts at start and ends before end, where its LF or the text's end is; next is behind that.
 #[derive(Clone, Copy)]
-pub enum Line {
-    // A line: it starts at start and ends before end, where its LF or the text's end is; next is behind that.
-    Found {
-        start: usize,
-        end: usize,
-        next: Cursor,
-    },
-    // Nothing: the text ended.
-    Nothing,
+pub struct Line {
+    pub start: usize,
+    pub end: usize,
+    pub next: Cursor,
 }
 
-// The line at a cursor, of any text and any cursor.
-pub fn next_line(text: &[u8], cursor: Cursor) -> Line
+// The line at a cursor, of any text and any cursor; none where the text ended.
+pub fn next_line(text: &[u8], cursor: Cursor) -> Option<Line>
     ensures { result ≡ line_at text.now cursor.at }
 {
-    let at = cursor.at;
-    let size = text.len();
-    if size <= at {
-        return Line::Nothing;
+    let start = cursor.at;
+    if text.len() <= start {
+        return None;
     }
-    let end = octets::find(text, at, LF);
-    if end < size {
-        return Line::Found {
-            start: at,
-            end,
-            next: Cursor { at: end + 1 },
-        };
-    }
-    Line::Found {
-        start: at,
-        end,
-        next: Cursor { at: end },
-    }
+    let end = octets::find(text, start, LF);
+    let next = Cursor {
+        at: (end + 1).min(text.len()),
+    };
+    Some(Line { start, end, next })
 }
 
 // The bytes from start up to, not including, end; none where the text has no such part.
 pub fn part(text: &[u8], start: usize, end: usize) -> &[u8]
     ensures { result.now ≡ part_of text.now start end }
 {
-    if end < start {
-        return &text[..0];
-    }
-    if text.len() < end {
-        return &text[..0];
-    }
-    &text[start..end]
+    text.get(start..end).unwrap_or(&[])
 }

@@ -1,20 +1,16 @@
 -- Values put together from what the functions below answer, and that they are specs/Link's where nothing passes 64 bits. Assumes nothing.
-use mathlib.Core.Path.{◌≡◌, ap, ap₂, ◌∙◌}
-use Prim.Native.Nat.{ℕ, ◌+◌, ◌*◌, ◌<◌, ◌^◌}
+use mathlib.Core.Path.{◌≡◌, ap, ap₂}
+use Prim.Native.Nat.{ℕ, ◌*◌, ◌<◌, ◌^◌}
 use native.Mathlib.Nat.{mul-le-mul, le_of_lt}
 use native.Mathlib.Omega.{arith}
 use Rattle.measure.specs.declared.Symbols.{Symbols}
-use Rattle.measure.specs.declared.Slots.{Slots}
-use Rattle.measure.specs.declared.Frames.{Frames}
 use Rattle.measure.specs.declared.FrameSymbols.{FrameSymbols}
 use Rattle.measure.specs.declared.Rate.{Rate}
-use Rattle.measure.specs.Measures.{symbols, slots, frames, largest, up_to_64, within, whole_frames, service_time, frame_symbols}
-use Rattle.superframe_model.specs.Reservation.{frames_in, rate, slots_for, latency}
+use Rattle.measure.specs.Measures.{symbols, up_to_64, whole_frames, frame_symbols}
 use Rattle.measure.proofs.Limits.{up_to_fits, within-fits}
 use Rattle.links.specs.declared.Timing.{Timing}
 use Rattle.links.specs.declared.Load.{Load}
 use Rattle.links.specs.declared.Reservation.{Reservation}
-use Rattle.links.specs.declared.Figures.{Figures}
 use Rattle.links.specs.Link.{load, load_up_to_64, slots_of, frames_of, latency_of, reservation_of, after_link, buffer, delay, figures_by}
 use Rattle.links.specs.Answers.{slots_answered, frames_answered, latency_answered, reservation_answered, Timed, figures_answered, Moderate}
 use Rattle.links.proofs.LinkLaws.{slots-long, latency-bound}
@@ -28,15 +24,6 @@ pub load_fits : (a : Load) → a.rate.0 < 2 ^ 64 → a.burst.0 < 2 ^ 64 → load
 load_fits a h k = ap₂ (λ (m n : ℕ). load m n) (up_to_fits h) (up_to_fits k)
 
 -- ---- a rate's reservation
-
--- from the answers for its slots, its frames and its latency
-pub reservation-made : (t : Timing) (ρ : Rate) (k : Slots) (m : Frames) (T : Symbols)
-    → k ≡ within (ρ.0 * t.exchange.0) (slots_for ρ t.slot t.exchange) (slots largest)
-    → m ≡ within (k.0 * t.slot.0) (frames_in k t.slot t.exchange) (frames 0)
-    → T.0 ≡ up_to_64 (latency t.interval m t.exchange).0
-    → ◌≡◌ {A = Reservation} (record { slots = k; frames = m; latency = T }) (reservation_answered t ρ)
-unfolding reservation_answered latency_answered frames_answered slots_answered slots_of
-reservation-made t ρ k m T ek em et = rw (et, em, ek)
 
 -- where every number fits, it is the rate's reservation
 module _ (t : Timing) (ρ : Rate) (timed : Timed t) (low : ρ.0 < 2 ^ 40) where
@@ -57,18 +44,6 @@ module _ (t : Timing) (ρ : Rate) (timed : Timed t) (low : ρ.0 < 2 ^ 40) where
   reservation-fits = rw (slots-fit, frames-fit, latency-fit)
 
 -- ---- a link's figures
-
--- from the answers for the load after it, the buffer, the service and the delay
-pub figures-made : (interval : Symbols) (a : Load) (r : Reservation) (left : Load) (b : Frames) (service : Rate) (wait d : Symbols)
-    → left ≡ load_up_to_64 (after_link a r) → b ≡ whole_frames left.burst interval → service ≡ rate r.frames → wait ≡ service_time a.burst service
-    → d.0 ≡ up_to_64 (wait.0 + r.latency.0)
-    → ◌≡◌ {A = Figures} (record { rate = a.rate; burst = a.burst; slots = r.slots; frames = r.frames; latency = r.latency; buffer = b; delay = d }) (figures_answered interval a r)
-unfolding figures_answered delay
-figures-made interval a r left b service wait d el eb es ew ed =
-    let b' : b ≡ whole_frames (load_up_to_64 (after_link a r)).burst interval = eb ∙ ap (λ (x : Load). whole_frames x.burst interval) el in
-    let w' : wait ≡ service_time a.burst (rate r.frames) = ew ∙ ap (service_time a.burst) es in
-    let d' : d.0 ≡ up_to_64 ((service_time a.burst (rate r.frames)).0 + r.latency.0) = ed ∙ ap (λ (x : Symbols). up_to_64 (x.0 + r.latency.0)) w' in
-    rw (b', d')
 
 -- where the sums fit, they are the link's figures
 pub figures-fit : (interval : Symbols) (a : Load) (r : Reservation) → Moderate a r → figures_answered interval a r ≡ figures_by interval a r

@@ -66,19 +66,20 @@ impl Load {
     }
 
     // The load that has left the link which this one entered.
+    #[tactic(auto, unfolding(crate::specs::Link::after_link))]
     pub fn after(self, link: Reservation) -> Load
         ensures { result ≡ load_up_to_64 (after_link self link) }
     {
-        let rate = self.rate;
-        let grown = measure::arrivals_in(rate, link.latency);
+        let grown = measure::arrivals_in(self.rate, link.latency);
         Load {
-            rate,
+            rate: self.rate,
             burst: self.burst.plus(grown),
         }
     }
 }
 
 // The reservation that a rate needs.
+#[tactic(auto, unfolding(crate::specs::Answers::reservation_answered, crate::specs::Answers::slots_answered, crate::specs::Answers::frames_answered, crate::specs::Answers::latency_answered, crate::specs::Link::slots_of))]
 pub fn reservation_for(t: Timing, rate: Rate) -> Reservation
     ensures { result ≡ reservation_answered t rate }
 {
@@ -93,25 +94,25 @@ pub fn reservation_for(t: Timing, rate: Rate) -> Reservation
 }
 
 // The figures of a link, from the load that enters it and its reservation.
+#[tactic(auto, unfolding(crate::specs::Answers::figures_answered, crate::specs::Link::delay))]
 pub fn figures_of(interval: Symbols, load: Load, link: Reservation) -> Figures
     ensures { result ≡ figures_answered interval load link }
 {
-    let rate = load.rate;
-    let burst = load.burst;
-    let slots = link.slots;
-    let frames = link.frames;
-    let latency = link.latency;
+    let Load { rate, burst } = load;
+    let Reservation {
+        slots,
+        frames,
+        latency,
+    } = link;
     let left = load.after(link);
-    let buffer = measure::whole_frames(left.burst, interval);
     let service = superframe_reservation::rate_of(frames);
-    let delay = measure::service_time(burst, service).plus(latency);
     Figures {
         rate,
         burst,
         slots,
         frames,
         latency,
-        buffer,
-        delay,
+        buffer: measure::whole_frames(left.burst, interval),
+        delay: measure::service_time(burst, service).plus(latency),
     }
 }

@@ -2,7 +2,9 @@
 use mathlib.Core.Path.{◌≡◌, sym}
 use Prim.Native.Nat.{ℕ, suc, ◌+◌, ◌-◌, ◌*◌, ◌/◌, ◌%◌, ◌≤◌, ◌<◌}
 use native.Mathlib.Omega.{arith}
-use native.Mathlib.Nat.{div-add-mod', mod-lt, div-lt_iff_lt-mul, suc-mul, le_antisymm, div-zero, mul-le-mul_left, mul-le-mul_right}
+use native.Mathlib.Nat.{div-add-mod', mod-lt, div-lt_iff_lt-mul, suc-mul, le_antisymm, div-zero, mul-le-mul_right}
+use native.Mathlib.Decide.{dec_le}
+use Rattle.std.specs.Int.{div_ceil}
 use Rattle.measure.specs.Measures.{rounded_up}
 
 -- so many b hold a
@@ -34,15 +36,13 @@ pub rounded-up-by-zero : (a : ℕ) → rounded_up a 0 ≡ 0
 unfolding rounded_up
 rounded-up-by-zero a = div-zero _
 
--- the quotient where nothing is left over, and one more where something is
-pub rounded-up-even : (a b : ℕ) → 0 < b → a % b ≡ 0 → a / b ≡ rounded_up a b
-rounded-up-even a b p e = sym (rounded-up-only a b (a / b) p (omega (arith, div-add-mod' a b)) (omega (arith, div-add-mod' a b)))
-
-pub rounded-up-odd : (a b : ℕ) → 0 < b → (a % b ≡ 0 → ⊥) → a / b + 1 ≡ rounded_up a b
-rounded-up-odd a b p f =
-    sym (rounded-up-only a b (a / b + 1) p
-    (omega (arith, div-add-mod' a b, mod-lt a p)) (omega (arith, div-add-mod' a b)))
-
--- that one more is at most the number itself, so it fits where the number does
-pub quotient-below : (a b : ℕ) → 0 < b → (a % b ≡ 0 → ⊥) → a / b + 1 ≤ a
-quotient-below a b p f = omega (arith, div-add-mod' a b, mul-le-mul_left (a / b) p)
+-- the library rounds up to the same number
+pub rounded-up-ceil : (a b : ℕ) → 0 < b → div_ceil a b ≡ rounded_up a b
+rounded-up-ceil a b p = by (dec_le 1 (a % b)) where
+  by : Dec (1 ≤ a % b) → div_ceil a b ≡ rounded_up a b
+  by (yes h) =
+      let m : div_ceil a b ≡ a / b + 1 = omega arith in
+      rw m (sym (rounded-up-only a b (a / b + 1) p (omega (arith, div-add-mod' a b, mod-lt a p)) (omega (arith, div-add-mod' a b))))
+  by (no h) =
+      let m : div_ceil a b ≡ a / b = omega arith in
+      rw m (sym (rounded-up-only a b (a / b) p (omega (arith, div-add-mod' a b)) (omega (arith, div-add-mod' a b))))

@@ -31,6 +31,8 @@ pub struct FrameSymbols(pub u64);
 #[derive(Clone, Copy)]
 pub struct Rate(pub u64);
 
+// Stays as it is: one trait for these sums and products would need a ghost member that names a measure's number, and its two methods
+// would be no shorter than these bodies of one line; a macro writes no contracts.
 impl Symbols {
     pub fn plus(self, more: Symbols) -> Symbols
         ensures { result.0 ≡ up_to_64 (self.0 + more.0) }
@@ -82,6 +84,7 @@ impl FrameSymbols {
 }
 
 // The burst of n frames at once.
+#[tactic(auto, unfolding(crate::specs::Measures::burst))]
 pub fn burst_of(n: Frames, interval: Symbols) -> FrameSymbols
     ensures { result.0 ≡ up_to_64 (burst n interval).0 }
 {
@@ -89,6 +92,7 @@ pub fn burst_of(n: Frames, interval: Symbols) -> FrameSymbols
 }
 
 // What a rate brings in t symbols.
+#[tactic(auto, unfolding(crate::specs::Measures::arrivals))]
 pub fn arrivals_in(rate: Rate, t: Symbols) -> FrameSymbols
     ensures { result.0 ≡ up_to_64 (arrivals rate t).0 }
 {
@@ -96,6 +100,7 @@ pub fn arrivals_in(rate: Rate, t: Symbols) -> FrameSymbols
 }
 
 // A burst in whole frames, rounded up. No interval, no frames.
+#[tactic(auto, unfolding(crate::specs::Measures::whole_frames))]
 pub fn whole_frames(b: FrameSymbols, interval: Symbols) -> Frames
     ensures { result ≡ whole_frames b interval }
 {
@@ -103,6 +108,7 @@ pub fn whole_frames(b: FrameSymbols, interval: Symbols) -> Frames
 }
 
 // The symbols, rounded up, in which a service rate takes a burst up. No rate, no symbols.
+#[tactic(auto, unfolding(crate::specs::Measures::service_time))]
 pub fn service_time(b: FrameSymbols, rate: Rate) -> Symbols
     ensures { result ≡ service_time b rate }
 {

@@ -1,50 +1,46 @@
 // Bare numbers of 64 bits, for what is computed within a measure or from one to another. None of these wraps.
-ghost use Rattle.std.specs.Prelude.{◌≡◌, ◌+◌, ◌-◌, ◌*◌, ◌^◌, ltb};
+ghost use Rattle.std.specs.Prelude.{◌≡◌, ◌+◌, ◌-◌, ◌*◌, ◌^◌, ◌<◌, ltb};
+ghost use Rattle.std.specs.Option.{SomeIff};
 ghost use Rattle.measure.specs.Measures.{up_to_64, rounded_up};
 
 // a + b, or the largest number of 64 bits.
 pub fn sum(a: u64, b: u64) -> u64
     ensures { result ≡ up_to_64 (a + b) }
 {
-    if a <= u64::MAX - b { a + b } else { u64::MAX }
+    a.saturating_add(b)
 }
 
-// a * b, or the largest number of 64 bits. Factors below 2 ^ 16 and 2 ^ 48 are told apart first, since their product always fits and the
-// test for others divides, which is slow.
+// a * b, or the largest number of 64 bits.
 pub fn product(a: u64, b: u64) -> u64
     ensures { result ≡ up_to_64 (a * b) }
 {
-    if a < 65536 {
-        if b < 281474976710656 {
-            return a * b;
-        }
-    }
-    if product_fits(a, b) { a * b } else { u64::MAX }
+    checked_product(a, b).unwrap_or(u64::MAX)
 }
 
 // Whether a * b fits 64 bits.
 pub fn product_fits(a: u64, b: u64) -> bool
     ensures { result ≡ ltb (a * b) (2 ^ 64) }
 {
-    if a == 0 {
-        return true;
-    }
-    b <= u64::MAX / a
+    checked_product(a, b).is_some()
+}
+
+// a * b, where it fits 64 bits. As the library's checked_mul, but that divides, which is slow; 128 bits hold each product.
+pub fn checked_product(a: u64, b: u64) -> Option<u64>
+    ensures { SomeIff result (a * b < 2 ^ 64) (a * b) }
+{
+    u64::try_from(u128::from(a) * u128::from(b)).ok()
 }
 
 // a - b, or 0 where b is more.
 pub fn rest(a: u64, b: u64) -> u64
     ensures { result ≡ a - b }
 {
-    if b <= a { a - b } else { 0 }
+    a.saturating_sub(b)
 }
 
-// a / b rounded up, 0 where b is 0. The quotient is taken first: a + b may pass 64 bits.
+// a / b rounded up, 0 where b is 0.
 pub fn rounded_up(a: u64, b: u64) -> u64
     ensures { result ≡ rounded_up a b }
 {
-    if b == 0 {
-        return 0;
-    }
-    if a % b == 0 { a / b } else { a / b + 1 }
+    if b == 0 { 0 } else { a.div_ceil(b) }
 }

@@ -3,13 +3,11 @@ use mathlib.Core.Path.{◌≡◌, ◌∙◌}
 use mathlib.Core.List.{List, [], ◌∷◌, ◌++◌, append_assoc}
 use Prim.Native.Nat.{ℕ, suc, ◌+◌, ◌*◌, ◌≤◌}
 use native.Mathlib.Omega.{arith}
-use lib.ListN.{length, get_or, length-append}
+use lib.ListN.{length, length-append}
 use lib.Seq.{sets, get_or-append-add}
 use Rattle.buffer.proofs.Putting.{sets-sets}
-use Rattle.measure.specs.Measures.{symbols}
-use Rattle.plan_model.specs.declared.Line.{Line}
 use Rattle.plan_model.specs.declared.NodeLine.{NodeLine}
-use Rattle.line_table_model.specs.Rows.{numbers_of, line_in}
+use Rattle.line_table_model.specs.Rows.{numbers_of}
 use Rattle.line_table_model.proofs.Numbers.{numbers-length, line-back, line-behind}
 use Rattle.line_table_model.proofs.RowLaws.{rows-length, rows-put, rows_back, rows_more}
 use Rattle.node_table_model.specs.NodeRows.{node_numbers, node_in, tree_table, nodes_in}
@@ -52,7 +50,7 @@ nodes-back p e h = rows_back 10 node_numbers node_in node-length node-back node-
 pub nodes-more : (ns : List ℕ) (n : ℕ) → nodes_in ns (suc n) ≡ nodes_in ns n ++ (node_in ns (10 * n) ∷ [])
 nodes-more ns n = rows_more 10 node_numbers node_in node-length node-back node-behind ns n
 
--- ---- one node, as it is put and read
+-- ---- one node, as it is put
 
 -- its line, then ROUTE
 pub node-put : (at : ℕ) (n : NodeLine) (t0 t1 t : List ℕ) → t1 ≡ sets t0 at (numbers_of n.line) → t ≡ sets t1 (at + 9) (n.route.0 ∷ []) → t ≡ sets t0 at (node_numbers n)
@@ -60,8 +58,3 @@ unfolding node_numbers
 node-put at n t0 t1 t e1 e =
     let q : at + 9 ≡ at + length (numbers_of n.line) = omega (arith, numbers-length n.line) in
     e ∙ rw (e1, q) (sets-sets t0 at (numbers_of n.line) (n.route.0 ∷ []))
-
--- made of its line and ROUTE as they were read
-pub node_made : (ns : List ℕ) (at : ℕ) (l : Line) (r : ℕ) → l ≡ line_in ns at → r ≡ get_or ns (at + 9) 0 → ◌≡◌ {A = NodeLine} (record { line = l; route = symbols r }) (node_in ns at)
-unfolding node_in
-node_made ns at l r el er = rw (el, er)

@@ -1,21 +1,26 @@
 -- Where a byte stands, from a position on. Assumes nothing.
-use Rattle.std.proofs.Common.{◌≡◌, refl, true, false, List, ℕ, ◌+◌, ◌≤◌, ◌<◌, length, drop, get_or, nat_eq, arith, add-one}
-use Rattle.std.proofs.lemmas.List.{drop_all}
-use Rattle.std.proofs.Math.Seq.{drop-cons}
+use Rattle.std.proofs.Common.{◌≡◌, refl, true, false, Bool, not, cond, ◌==◌, List, [], ◌∷◌, ℕ, ◌+◌, length, drop, arith, Option, Some, None, Bor, unwrap_or}
+use Rattle.std.proofs.lemmas.List.Sums.{prefix_len-le-length}
+use Rattle.std.proofs.lemmas.Grind.{common_steps}
+use Rattle.std.specs.List.{position, position_or_len}
+use Rattle.std.specs.Slice.{IsGetRangeResult}
 use Rattle.octets.specs.Bytes.{index_after, index_of}
 
--- nothing stands behind the end
-pub found-nowhere : (b : ℕ) (s : List ℕ) (i : ℕ) → length s ≤ i → index_of b (drop i s) ≡ 0
-unfolding index_of
-found-nowhere b s i h = rw (drop_all i s h) refl
+-- the rest of a text from a position on, nothing from behind the end
+pub rest_of : (s : List ℕ) (at : ℕ) (r : Option (Bor (List ℕ))) (none p : Bor (List ℕ)) → none.now ≡ []
+    → IsGetRangeResult s at (length s) r → p ≡ unwrap_or r none → p.now ≡ drop at s
+rest_of s at (Some q) none p n g e = grind (arith, common_steps)
+rest_of s at None none p n g e = grind (arith, common_steps)
 
--- the byte at a position is the one sought
-pub found-here : (b : ℕ) (s : List ℕ) (i : ℕ) → i < length s → nat_eq (get_or s i 0) b ≡ true → index_of b (drop i s) ≡ 0
+-- what comes before the first byte that is the one sought
+before_it : (b : ℕ) (s : List ℕ) → position_or_len (λ x. x == b) s ≡ index_of b s
 unfolding index_of index_after
-found-here b s i h e = rw (drop-cons s i 0, e) refl
+before_it b [] = refl
+before_it b (x ∷ xs) = by (x == b) _ _ (before_it b xs) where
+  by : (t : Bool) (i j : ℕ) → i ≡ j → cond (not t) (1 + i) 0 ≡ index_after t j
+  by true i j e = refl
+  by false i j e = omega arith
 
--- it is not
-pub found-behind : (b : ℕ) (s : List ℕ) (i : ℕ) → i < length s → nat_eq (get_or s i 0) b ≡ false
-    → i + index_of b (drop i s) ≡ i + 1 + index_of b (drop (i + 1) s)
-unfolding index_of index_after
-found-behind b s i h e = rw (drop-cons s i 0, e, add-one) (omega arith)
+-- so its place is where the library finds it, or the end
+pub found : (b : ℕ) (s : List ℕ) → unwrap_or (position (λ x. x == b) s) (length s) ≡ index_of b s
+found b s = let n = prefix_len-le-length (λ x. not (x == b)) s in grind (arith, common_steps, before_it)

@@ -12,14 +12,8 @@ pub fn find(text: &[u8], at: usize, byte: u8) -> usize
     ensures place { result ≡ at + index_of byte (drop at text.now) }
     ensures inside { at ≤ length text.now → result ≤ length text.now }
 {
-    let mut i = at;
-    while i < text.len() {
-        if text[i] == byte {
-            return i;
-        }
-        i += 1;
-    }
-    i
+    let rest = text.get(at..).unwrap_or(&[]);
+    at + rest.iter().position(|b| *b == byte).unwrap_or(rest.len())
 }
 
 // Whether two texts are alike.

@@ -1,26 +1,17 @@
 -- What is answered and put for an outcome, whatever the sort of plan. Assumes nothing.
-use mathlib.Core.Path.{◌≡◌, refl, sym, ap, ◌∙◌}
+use Rattle.std.specs.Prelude.{Ok, Err}
+use mathlib.Core.Path.{◌≡◌, refl, sym, ◌∙◌}
 use mathlib.Core.List.{List}
-use Prim.Native.Nat.{ℕ, ◌≤◌}
-use native.Mathlib.Omega.{arith}
+use Prim.Native.Nat.{ℕ}
 use lib.ListN.{length}
 use lib.Seq.{sets}
 use Rattle.refusals.specs.declared.Refusal.{Refusal}
-use Rattle.refusals.specs.declared.Refusal.TheVariants.{Names}
-use Rattle.refusals.specs.declared.Verdict.{Verdict}
-use Rattle.refusals.specs.declared.Verdict.TheVariants.{Kept, Broken}
 use Rattle.refusals.specs.Outcome.{Outcome, Planned, Refused}
-use Rattle.refusals.proofs.Answering.{broken-kept}
-use Rattle.plan_model.specs.declared.Plan.{Plan}
-use Rattle.plan_model.specs.Plans.{planned, refused, answer, written}
-
-pub refused-short : (most : ℕ) (x : Plan) (r : Refusal) → x ≡ refused r → x.length ≤ most
-unfolding refused
-refused-short most x r e = let z : x.length ≡ 0 = ap (λ (p : Plan). p.length) e in omega arith
+use Rattle.plan_model.specs.Plans.{answer, written}
 
 module _ {P : Type 0} (text : P → List ℕ) where
   -- refused: nothing is put
-  pub refused-answer : (o : Outcome P) (r : Refusal) → Refused r ≡ o → refused r ≡ answer text o
+  pub refused-answer : (o : Outcome P) (r : Refusal) → Refused r ≡ o → Err r ≡ answer text o
   unfolding answer
   refused-answer o r e = rw (sym e) refl
 
@@ -29,31 +20,27 @@ module _ {P : Type 0} (text : P → List ℕ) where
   refused-put o r b e = rw (sym e) refl
 
   -- planned: the text is
-  pub planned-answer : (o : Outcome P) (p : P) (x : Plan) → Planned p ≡ o → x.verdict ≡ Kept → x.length ≡ length (text p) → x ≡ answer text o
-  unfolding answer planned
-  planned-answer o p x e ev el = rw (sym e, sym ev, sym el) refl
+  pub planned-answer : (o : Outcome P) (p : P) (n : ℕ) → Planned p ≡ o → n ≡ length (text p) → Ok n ≡ answer text o
+  unfolding answer
+  planned-answer o p n e el = rw (sym e, sym el) refl
 
   pub planned-put : (o : Outcome P) (p : P) (b c : List ℕ) → Planned p ≡ o → c ≡ sets b 0 (text p) → c ≡ sets b 0 (written text o)
   unfolding written
   planned-put o p b c e ec = ec ∙ rw (sym e) refl
 
   -- the length that is answered is that of what is put
-  pub answered-length : (o : Outcome P) → (answer text o).length ≡ length (written text o)
-  unfolding answer planned refused written
-  answered-length (Planned p) = refl
-  answered-length (Refused r) = refl
+  pub answered-length : (o : Outcome P) (n : ℕ) → answer text o ≡ Ok n → n ≡ length (written text o)
+  unfolding answer written
+  answered-length (Planned p) n e = cc
+  answered-length (Refused r) n e = cc
 
   -- an outcome from the plan that answers it
-  pub answer-refused : (o : Outcome P) (r : Refusal) → (answer text o).verdict ≡ Broken r → o ≡ Refused r
-  unfolding answer planned refused
-  answer-refused (Planned p) r v = broken-kept r (sym v)
-  answer-refused (Refused x) r v = ap (λ (w : Verdict). Refused (of w)) v
-    where
-      of : Verdict → Refusal
-      of Kept = Names
-      of (Broken y) = y
+  pub answer-refused : (o : Outcome P) (r : Refusal) → answer text o ≡ Err r → o ≡ Refused r
+  unfolding answer
+  answer-refused (Planned p) r v = cc
+  answer-refused (Refused x) r v = cc
 
-  pub answer-planned : (o : Outcome P) → (answer text o).verdict ≡ Kept → (p : P) × (o ≡ Planned p)
-  unfolding answer planned refused
-  answer-planned (Planned p) v = (p, refl)
-  answer-planned (Refused x) v = broken-kept x v
+  pub answer-planned : (o : Outcome P) (n : ℕ) → answer text o ≡ Ok n → (p : P) × (o ≡ Planned p)
+  unfolding answer
+  answer-planned (Planned p) n v = (p, refl)
+  answer-planned (Refused x) n v = cc

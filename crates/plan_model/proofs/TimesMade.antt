@@ -3,11 +3,7 @@ use mathlib.Core.Path.{◌≡◌, ◌∙◌}
 use Prim.Native.Nat.{ℕ, ◌+◌, ◌*◌, ◌%◌, ◌^◌, ◌≤◌, min}
 use native.Mathlib.Omega.{arith}
 use lib.Dec.{eqb}
-use Rattle.measure.specs.declared.Symbols.{Symbols}
-use Rattle.superframe_model.specs.Orders.{beacon_interval, slot}
-use Rattle.superframe_model.specs.Loss.{lossy_exchange_for}
 use Rattle.superframe_model.proofs.LossLaws.{lossy-for-octets}
-use Rattle.links.specs.declared.Timing.{Timing}
 use Rattle.settings_model.specs.declared.Radio.{Radio}
 use Rattle.settings_model.specs.Laws.{CheckedRadio}
 use Rattle.measure.specs.Measures.{up_to_64}
@@ -19,13 +15,7 @@ use Rattle.plan_model.specs.Times.{timing_of, timing_answered}
 pub order_is : (o : ℕ) → o ≤ 14 → min o 14 ≡ o
 order_is o h = omega arith
 
--- times from the answers for each
-pub timing-made : (b : Radio) (i t x : Symbols) (o : ℕ) → o ≡ up_to_64 (b.head + b.payload) → i ≡ beacon_interval (min b.bo 14) → t ≡ slot (min b.so 14) → x ≡ lossy_exchange_for o (eqb b.ack 1) b.loss
-    → ◌≡◌ {A = Timing} (record { interval = i; slot = t; exchange = x }) (timing_answered b)
-unfolding timing_answered
-timing-made b i t x o eo ei et ex = rw (ei, et, ex, eo)
-
--- and of checked settings
+-- times as they are answered of checked settings
 pub timing-fits : (b : Radio) → CheckedRadio b → timing_answered b ≡ timing_of b
 unfolding timing_answered timing_of
 timing-fits b h =

@@ -4,7 +4,6 @@
 
 use links::Figures;
 use measure::Symbols;
-use refusals::Verdict;
 
 // Whose link a line is of: an end node's, a router's upward or downward one; or the sink's line, which is no link's.
 #[derive(Clone, Copy)]
@@ -29,11 +28,4 @@ pub struct Line {
 pub struct NodeLine {
     pub line: Line,
     pub route: Symbols,
-}
-
-// What settings come to: whether they are planned, and the length of the plan's text, 0 where they are refused.
-#[derive(Clone, Copy)]
-pub struct Plan {
-    pub verdict: Verdict,
-    pub length: usize,
 }

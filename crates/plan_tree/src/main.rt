@@ -1,29 +1,16 @@
 // The program: `plan_tree BO SO HEAD DATA ACK SINK [LOSS]`, a node list from standard input, its plan or a refusal to standard output
-// (document 02, E3 and E5). What is printed is decided in `tree_program`; here it is read and written alone.
+// (document 02, E3 and E5). What is printed, and how it is read and written, is decided in `tree_program`; here the arguments are read.
 #![tactic(auto)]
 
 use decimal::read_number;
-use decimal_model::Number;
-use input::read_full;
-use report::LONGEST_TREE;
 use std::env::FillError;
 use std::io;
 use std::rt::Env;
-use tree_program::put_tree_output;
+use tree_program::run;
 use tree_program_model::Arguments;
 
 fn main(rt: HostRuntime) -> io::Result<()> {
-    // One byte more than an input may have: a longer one shows.
-    let mut space = [0u8; 65537];
-    let n = read_full(&mut rt.stdin(), &mut space)?;
-    print(&rt, arguments(&rt), &space[..n])
-}
-
-// Writes what is printed for an input, and answers why where it cannot be written whole.
-fn print(rt: &impl Print, arguments: Arguments, input: &[u8]) -> io::Result<()> {
-    let mut out = [0u8; LONGEST_TREE];
-    let n = put_tree_output(arguments, input, &mut out);
-    rt.write_all(&out[..n])
+    run(arguments(&rt), &mut rt.stdin(), &mut rt.stdout())
 }
 
 // The arguments behind the program's name.
@@ -51,11 +38,9 @@ fn argument_count(rt: &impl Env) -> usize {
     usize::MAX - 1
 }
 
-// The number that an argument spells, which may be any bytes. One that is missing, or longer than any number, is as an empty one.
-fn argument(rt: &impl Env, i: usize) -> Number {
+// The number that an argument spells, which may be any bytes; none where it is missing, or longer than any number.
+fn argument(rt: &impl Env, i: usize) -> Option<u64> {
     let mut space = [0u8; 8];
-    match rt.arg(i, &mut space) {
-        Ok(n) => read_number(&space[..n]),
-        Err(_) => read_number(b""),
-    }
+    let n = rt.arg(i, &mut space).ok()?;
+    read_number(&space[..n])
 }

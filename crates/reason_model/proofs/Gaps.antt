@@ -1,4 +1,5 @@
 -- What stands for a part of a phrase is read for it, where every gap ends before a byte that is of no word. Assumes nothing.
+use Rattle.std.specs.Prelude.{Some, None}
 use mathlib.Core.Path.{◌≡◌, refl}
 use mathlib.Core.Bool.{Bool, true, false, not, ◌&&◌, false≢true}
 use mathlib.Core.List.{List, [], ◌∷◌, ◌++◌}
@@ -7,7 +8,6 @@ use native.Mathlib.Omega.{arith}
 use lib.ListN.{length}
 use lib.Seq.{take-append_seam, drop-append_seam}
 use Rattle.decimal_model.specs.Decimal.{decimal}
-use Rattle.reason_model.specs.declared.Match.TheVariants.{At, Nowhere}
 use Rattle.reason_model.specs.Reasons.{column_name, Part, Byte, Name, Place, Value, part_text, filled}
 use Rattle.reason_model.specs.Reading.{word_byte, extent, meant, matched}
 use Rattle.reason_model.proofs.Words.{goes_on, word-length, decimal-word}
@@ -54,13 +54,13 @@ module _ (p : ℕ) (vs : List ℕ) where
   -- a part is read from what stands for it
   pub part-matched : (v : ℕ) (x y : Part) (xs ys : List Part) (q : ℕ) → ended y ys ≡ true
       → extent x (part_text p v y ++ filled p ys vs) ≡ extent y (part_text p v y ++ filled p ys vs)
-      → matched (x ∷ xs) (At q) (part_text p v y ++ filled p ys vs) ≡ matched xs (meant q x (part_text p v y)) (filled p ys vs)
+      → matched (x ∷ xs) (Some q) (part_text p v y ++ filled p ys vs) ≡ matched xs (meant q x (part_text p v y)) (filled p ys vs)
   unfolding matched
   part-matched v x y xs ys q e f =
       rw (f, part-extent v y ys e, take-append_seam (part_text p v y) (filled p ys vs), drop-append_seam (part_text p v y) (filled p ys vs))
 
 -- what cannot be read stays so
-pub nowhere-matched : (xs : List Part) (t : List ℕ) → matched xs Nowhere t ≡ Nowhere
+pub nowhere-matched : (xs : List Part) (t : List ℕ) → matched xs None t ≡ None
 unfolding matched
 nowhere-matched [] t = refl
 nowhere-matched (x ∷ xs) t = refl

@@ -1,4 +1,5 @@
 -- The laws of specs/Laws. Assumes nothing.
+use Rattle.std.specs.Prelude.{Option, Some, None}
 use mathlib.Core.Path.{◌≡◌, refl, sym, ap, ◌∙◌}
 use mathlib.Core.Bool.{true, and-eq-true_iff}
 use mathlib.Core.List.{List, [], ◌∷◌, ◌++◌, map}
@@ -15,11 +16,9 @@ use Rattle.refusals.specs.Table.{Always, Sort, sort, table, sort_at, place_said}
 use Rattle.refusals.specs.Refusals.{conflict_facts, tree_facts, facts_of, number_of, place_of}
 use Rattle.refusals.proofs.Sorts.{place_for, sort-inside, place_kept, every}
 use Rattle.measure.specs.Measures.{slots}
-use Rattle.reason_model.specs.declared.Match.{Match}
-use Rattle.reason_model.specs.declared.Match.TheVariants.{At, Nowhere}
-use Rattle.reason_model.specs.declared.ReasonRead.TheVariants.{Reason}
+use Rattle.reason_model.specs.declared.Reason.{Reason}
 use Rattle.reason_model.specs.Reasons.{phrase_at, part_of, part_text, taken, filled, reason}
-use Rattle.reason_model.specs.Reading.{matched, read_as, read_from, read_reason}
+use Rattle.reason_model.specs.Reading.{matched, read_as, read_from, read_reason, reason_at}
 use Rattle.reason_model.specs.Laws.{ReadBack, ReasonOf, OnlyReasons, PrintableReasons}
 use Rattle.reason_model.proofs.Gaps.{sound}
 use Rattle.reason_model.proofs.PhrasesApart.{placed, apart, filled-matched, apart-matched}
@@ -32,7 +31,7 @@ use Rattle.reason_model.proofs.Sorts.{form, all_apart, apart-before, gaps-end, p
 module _ (p : ℕ) (h : p < 2 ^ 32) (s : Sort) (vs : List ℕ) (e : sound (form s) ≡ true) where
   -- sorts that are apart from a phrase read nothing from it; its own sort does
   read-among : (before after : List Sort) → all_apart before (form s) ≡ true
-      → read_from (before ++ s ∷ after) (filled p (form s) vs) ≡ Reason s.number (placed (place_said s.place) p (form s))
+      → read_from (before ++ s ∷ after) (filled p (form s) vs) ≡ reason_at s.number (placed (place_said s.place) p (form s))
   unfolding all_apart read_from read_as
   read-among [] after a = rw (filled-matched p h (form s) vs (place_said s.place) e)
   read-among (b ∷ bs) after a =
@@ -52,7 +51,7 @@ read_back r h =
     let split : table ≡ take k table ++ sort_at k ∷ drop (suc k) table = split-row k i in
     ap (λ (l : List Sort). read_from l (filled (facts_of r).place (form (sort_at k)) vs)) split
     ∙ read-among (facts_of r).place h (sort_at k) vs (gaps-end k i) (take k table) (drop (suc k) table) (apart-before k i)
-    ∙ ap (Reason (sort_at k).number) (place_read (sort_at k).place (facts_of r).place (form (sort_at k)) (place-agrees k i) (place-once k i) ∙ place_kept r)
+    ∙ ap (reason_at (sort_at k).number) (place_read (sort_at k).place (facts_of r).place (form (sort_at k)) (place-agrees k i) (place-once k i) ∙ place_kept r)
 
 -- ---- nothing else is taken for a reason
 
@@ -109,13 +108,16 @@ all_made : Makes makers table
 unfolding ascii table sort_at place_said place_for conflict_facts tree_facts facts_of number_of place_of phrase_at part_of part_text taken filled reason makers
 all_made p vs = refl
 
+abbrev said : ℕ → ℕ → Reason
+said n p = record { number = n; place = p }
+
 module _ (t : List ℕ) (p : ℕ) where
-  only-from : (ms : List (ℕ → List ℕ → Refusal)) (ss : List Sort) → Makes ms ss → every places_fit ss ≡ true → (n : ℕ) → read_from ss t ≡ Reason n p → ReasonOf t n p
+  only-from : (ms : List (ℕ → List ℕ → Refusal)) (ss : List Sort) → Makes ms ss → every places_fit ss ≡ true → (n : ℕ) → read_from ss t ≡ reason_at n p → ReasonOf t n p
   unfolding read_from read_as every places_fit
   only-from ms [] m f n e = let z : ◌≡◌ {A = ℕ} 0 1 = cc in absurd (omega arith)
   only-from [] (s ∷ ss) m f n e = let z : ◌≡◌ {A = ℕ} 0 (length (map (as_row p []) (s ∷ ss))) = ap length (m p []) in absurd (omega arith)
   only-from (make ∷ ms) (s ∷ ss) m f n e =
-      by (matched (form s) (At (place_said s.place)) t) refl e (only-from ms ss (λ q vs. ap (drop 1) (m q vs)) fit.1 n)
+      by (matched (form s) (Some (place_said s.place)) t) refl e (only-from ms ss (λ q vs. ap (drop 1) (m q vs)) fit.1 n)
     where
       fit : (places_fit s ≡ true) × (every places_fit ss ≡ true)
       fit = (and-eq-true_iff (places_fit s) (every places_fit ss)).0 f
@@ -123,7 +125,7 @@ module _ (t : List ℕ) (p : ℕ) where
       places : (once (form s) ≡ true) × (agrees s.place (form s) ≡ true)
       places = (and-eq-true_iff (once (form s)) (agrees s.place (form s))).0 fit.0
 
-      made : matched (form s) (At (place_said s.place)) t ≡ At p → ReasonOf t s.number p
+      made : matched (form s) (Some (place_said s.place)) t ≡ Some p → ReasonOf t s.number p
       made z =
           let i = matched-fills (form s) (place_said s.place) p t places.0 z in
           let kept : place_for s.place p ≡ p = sym (place_read s.place p (form s) places.1 places.0) ∙ i.stays in
@@ -135,13 +137,14 @@ module _ (t : List ℕ) (p : ℕ) where
             its_place = ap (λ (x : Told). x.place) row ∙ kept;
           }
 
-      by : (x : Match) → matched (form s) (At (place_said s.place)) t ≡ x → read_as s x (read_from ss t) ≡ Reason n p
-          → (read_from ss t ≡ Reason n p → ReasonOf t n p) → ReasonOf t n p
-      by (At q) z e g =
-          let a : s.number ≡ n = cc in
-          let b : q ≡ p = cc in
-          rw a at (made (z ∙ ap At b))
-      by Nowhere z e g = g e
+      by : (x : Option ℕ) → matched (form s) (Some (place_said s.place)) t ≡ x → read_as s x (read_from ss t) ≡ reason_at n p
+          → (read_from ss t ≡ reason_at n p → ReasonOf t n p) → ReasonOf t n p
+      by (Some q) z e g =
+          let both : said s.number q ≡ said n p = cc in
+          let a : s.number ≡ n = ap (λ (r : Reason). r.number) both in
+          let b : q ≡ p = ap (λ (r : Reason). r.place) both in
+          rw a at (made (z ∙ ap Some b))
+      by None z e g = g e
 
 pub only-reasons : OnlyReasons
 unfolding read_reason

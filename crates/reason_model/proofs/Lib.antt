@@ -11,8 +11,6 @@ pub mod Gaps
 pub mod PhrasesApart
 -- what is read for a phrase is that phrase filled
 pub mod PhraseFilled
--- the parts of a phrase, by their bytes
-pub mod Parts
 -- a phrase that is put part by part
 pub mod Putting
 -- a line that is read for a phrase part by part
@@ -25,7 +23,5 @@ pub mod LawsHold
 pub mod Computing
 -- the examples
 pub mod ExamplesHold
--- texts that stand one behind another
-pub mod Texts
--- the phrases and the columns' names in constants
+-- the phrases and the columns' names, from tables of them
 pub mod Tables

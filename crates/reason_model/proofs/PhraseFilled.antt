@@ -1,4 +1,5 @@
 -- What is read for a phrase is that phrase with its gaps filled. Assumes nothing.
+use Rattle.std.specs.Prelude.{Option, Some, None}
 use mathlib.Core.Path.{◌≡◌, refl, ap, sym, ◌∙◌}
 use mathlib.Core.Bool.{Bool, true, false, not, cond, ◌&&◌, false≢true}
 use mathlib.Core.List.{List, [], ◌∷◌, ◌++◌}
@@ -10,8 +11,6 @@ use borrow.Author.Tests.{not-true}
 use Rattle.decimal_model.specs.Number.{spelled}
 use Rattle.refusals.specs.Table.{Placing, Always, Own, place_said}
 use Rattle.refusals.proofs.Sorts.{place_for}
-use Rattle.reason_model.specs.declared.Match.{Match}
-use Rattle.reason_model.specs.declared.Match.TheVariants.{At, Nowhere}
 use Rattle.reason_model.specs.Reasons.{Part, Byte, Name, Place, Value, part_text, taken, filled}
 use Rattle.reason_model.specs.Reading.{numeral, place_in, column_in, extent, meant, matched}
 use Rattle.reason_model.proofs.Words.{numeral-writes, place-writes, no_place, same_place}
@@ -102,10 +101,10 @@ module _ (p q : ℕ) (xs : List Part) (t : List ℕ) (n : ℕ) where
         stays = rw s (unmarked-placed p p xs u);
       }
 
-none-fills : {A : Type 0} (xs : List Part) (t : List ℕ) (p : ℕ) → matched xs Nowhere t ≡ At p → A
+none-fills : {A : Type 0} (xs : List Part) (t : List ℕ) (p : ℕ) → matched xs None t ≡ Some p → A
 none-fills xs t p e = no_place p (sym (nowhere-matched xs t) ∙ e)
 
-pub matched-fills : (xs : List Part) (q p : ℕ) (t : List ℕ) → once xs ≡ true → matched xs (At q) t ≡ At p → Fills q p xs t
+pub matched-fills : (xs : List Part) (q p : ℕ) (t : List ℕ) → once xs ≡ true → matched xs (Some q) t ≡ Some p → Fills q p xs t
 unfolding matched filled placed once is_mark meant part_text stood taken
 matched-fills [] q p [] o e = record { values = []; fills = refl; stays = same_place q p e }
 matched-fills [] q p (b ∷ t) o e = no_place p e
@@ -116,8 +115,8 @@ matched-fills (Byte b ∷ xs) q p t o e = by (same w (b ∷ [])) refl e (matched
   w : List ℕ
   w = take n t
 
-  by : (c : Bool) → same w (b ∷ []) ≡ c → matched xs (cond c (At q) Nowhere) (drop n t) ≡ At p
-      → (matched xs (At q) (drop n t) ≡ At p → Fills q p xs (drop n t)) → Fills q p (Byte b ∷ xs) t
+  by : (c : Bool) → same w (b ∷ []) ≡ c → matched xs (cond c (Some q) None) (drop n t) ≡ Some p
+      → (matched xs (Some q) (drop n t) ≡ Some p → Fills q p xs (drop n t)) → Fills q p (Byte b ∷ xs) t
   by true s f g = let i = g f in kept_fills p q xs t n (Byte b) (get_or i.values 0 0) i.values (sym (same-equal w (b ∷ []) s)) refl refl i refl
   by false s f g = none-fills xs (drop n t) p f
 matched-fills (Name ∷ xs) q p t o e = by (column_in w) refl e (λ k. matched-fills xs k p (drop n t) (unmarked-once xs o)) where
@@ -127,10 +126,10 @@ matched-fills (Name ∷ xs) q p t o e = by (column_in w) refl e (λ k. matched-f
   w : List ℕ
   w = take n t
 
-  by : (m : Match) → column_in w ≡ m → matched xs m (drop n t) ≡ At p
-      → ((k : ℕ) → matched xs (At k) (drop n t) ≡ At p → Fills k p xs (drop n t)) → Fills q p (Name ∷ xs) t
-  by (At k) s f g = mark-fills p q xs t n Name k (λ v. column-writes w k s) refl refl o (g k f)
-  by Nowhere s f g = none-fills xs (drop n t) p f
+  by : (m : Option ℕ) → column_in w ≡ m → matched xs m (drop n t) ≡ Some p
+      → ((k : ℕ) → matched xs (Some k) (drop n t) ≡ Some p → Fills k p xs (drop n t)) → Fills q p (Name ∷ xs) t
+  by (Some k) s f g = mark-fills p q xs t n Name k (λ v. column-writes w k s) refl refl o (g k f)
+  by None s f g = none-fills xs (drop n t) p f
 matched-fills (Place ∷ xs) q p t o e = by (place_in w) refl e (λ k. matched-fills xs k p (drop n t) (unmarked-once xs o)) where
   n : ℕ
   n = extent Place t
@@ -138,10 +137,10 @@ matched-fills (Place ∷ xs) q p t o e = by (place_in w) refl e (λ k. matched-f
   w : List ℕ
   w = take n t
 
-  by : (m : Match) → place_in w ≡ m → matched xs m (drop n t) ≡ At p
-      → ((k : ℕ) → matched xs (At k) (drop n t) ≡ At p → Fills k p xs (drop n t)) → Fills q p (Place ∷ xs) t
-  by (At k) s f g = mark-fills p q xs t n Place k (λ v. place-writes w k s) refl refl o (g k f)
-  by Nowhere s f g = none-fills xs (drop n t) p f
+  by : (m : Option ℕ) → place_in w ≡ m → matched xs m (drop n t) ≡ Some p
+      → ((k : ℕ) → matched xs (Some k) (drop n t) ≡ Some p → Fills k p xs (drop n t)) → Fills q p (Place ∷ xs) t
+  by (Some k) s f g = mark-fills p q xs t n Place k (λ v. place-writes w k s) refl refl o (g k f)
+  by None s f g = none-fills xs (drop n t) p f
 matched-fills (Value ∷ xs) q p t o e = by (numeral w) refl e (matched-fills xs q p (drop n t) o) where
   n : ℕ
   n = extent Value t
@@ -149,7 +148,7 @@ matched-fills (Value ∷ xs) q p t o e = by (numeral w) refl e (matched-fills xs
   w : List ℕ
   w = take n t
 
-  by : (c : Bool) → numeral w ≡ c → matched xs (cond c (At q) Nowhere) (drop n t) ≡ At p
-      → (matched xs (At q) (drop n t) ≡ At p → Fills q p xs (drop n t)) → Fills q p (Value ∷ xs) t
+  by : (c : Bool) → numeral w ≡ c → matched xs (cond c (Some q) None) (drop n t) ≡ Some p
+      → (matched xs (Some q) (drop n t) ≡ Some p → Fills q p xs (drop n t)) → Fills q p (Value ∷ xs) t
   by true s f g = let i = g f in kept_fills p q xs t n Value (spelled w) (spelled w ∷ i.values) (numeral-writes w s) refl refl i refl
   by false s f g = none-fills xs (drop n t) p f

@@ -1,11 +1,12 @@
 -- A phrase that is put part by part. Assumes nothing.
-use mathlib.Core.Path.{◌≡◌, refl, ap, sym, ◌∙◌}
+use mathlib.Core.Path.{◌≡◌, ap, sym, ◌∙◌}
 use mathlib.Core.List.{List, [], ◌∷◌, ◌++◌, map}
 use Prim.Native.Nat.{ℕ, ◌+◌, ◌*◌, ◌^◌, ◌≤◌, ◌<◌}
 use native.Mathlib.Omega.{arith}
 use native.Mathlib.Numerals.{add-one}
+use Rattle.std.proofs.Common.{add-zero}
 use lib.ListN.{length, length-append, length-map, get_or, drop, drop_of_length-le}
-use lib.Seq.{sets, drop-cons, drop-drop}
+use lib.Seq.{sets, get_or-drop, drop-cons, drop-drop}
 use Rattle.buffer.proofs.Putting.{sets-sets}
 use Rattle.reason_model.specs.Reasons.{Part, Byte, Name, Place, Value, part_of, part_text, taken, filled}
 use Rattle.reason_model.specs.Inner.{most}
@@ -35,18 +36,15 @@ module _ (e : List ℕ) (place : ℕ) (phrase values : List ℕ) where
     pub size : at + length (rest k used) ≡ length whole
     pub leaves : sets out at (rest k used) ≡ sets e 0 whole
 
-  pub begun-none : Begun e 0 0 0
-  begun-none = record { inside = omega arith; few = omega arith; size = omega arith; leaves = refl }
-
   module _ (out : List ℕ) (at used k : ℕ) (b : Begun out at used k) where
     -- the next part, and what is left then
     next-part : k < length phrase
-        → rest k used ≡ part_text place (get_or (drop used values) 0 0) (part_of (get_or phrase k 0)) ++ rest (k + 1) (used + taken (part_of (get_or phrase k 0)))
+        → rest k used ≡ part_text place (get_or values used 0) (part_of (get_or phrase k 0)) ++ rest (k + 1) (used + taken (part_of (get_or phrase k 0)))
     unfolding filled
-    next-part h = rw (drop-cons phrase k 0 h, add-one, sym (drop-drop (taken (part_of (get_or phrase k 0))) used values))
+    next-part h = rw (drop-cons phrase k 0 h, get_or-drop used values 0 0, add-zero used, add-one, sym (drop-drop (taken (part_of (get_or phrase k 0))) used values))
 
     -- the next part is put, with the next value v
-    module _ (h : k < length phrase) (v : ℕ) (q : v ≡ get_or (drop used values) 0 0) (n : ℕ) (l : n ≡ length (part_text place v (part_of (get_or phrase k 0)))) where
+    module _ (h : k < length phrase) (v : ℕ) (q : v ≡ get_or values used 0) (n : ℕ) (l : n ≡ length (part_text place v (part_of (get_or phrase k 0)))) where
       part-size : at + n + length (rest (k + 1) (used + taken (part_of (get_or phrase k 0)))) ≡ length whole
       part-size =
           let w : List ℕ = part_text place v (part_of (get_or phrase k 0)) in

@@ -1,4 +1,5 @@
 -- The rows of the table, one by one: their phrases are apart, and what is computed of each. Assumes nothing.
+use Rattle.std.specs.Prelude.{Some, None}
 use mathlib.Core.Path.{◌≡◌, refl}
 use mathlib.Core.Bool.{Bool, true, ◌&&◌, and-eq-true_iff}
 use mathlib.Core.List.{List, [], ◌∷◌, map}
@@ -10,11 +11,11 @@ use lib.Seq.{drop-cons}
 use borrow.Author.Tests.{leb-true}
 use Rattle.decimal_model.specs.Ascii.{ascii}
 use Rattle.refusals.specs.Table.{Always, Sort, sort, table, sort_at, place_said}
-use Rattle.refusals.proofs.Sorts.{every, every-at}
-use Rattle.reason_model.specs.declared.Match.TheVariants.{At, Nowhere}
-use Rattle.reason_model.specs.declared.ReasonRead.TheVariants.{Reason, NoReason}
+use Rattle.refusals.specs.declared.Refusal.{Refusal}
+use Rattle.refusals.specs.Refusals.{facts_of}
+use Rattle.refusals.proofs.Sorts.{sort-inside, every, every-at}
 use Rattle.reason_model.specs.Reasons.{phrase_at, Part, part_of}
-use Rattle.reason_model.specs.Reading.{word_byte, matched, read_as, read_from}
+use Rattle.reason_model.specs.Reading.{word_byte, matched, read_as, read_from, reason_at}
 use Rattle.reason_model.specs.Inner.{most}
 use Rattle.reason_model.proofs.ColumnNames.{all_below, each_below}
 use Rattle.reason_model.proofs.Printing.{prints}
@@ -67,14 +68,15 @@ module _ (k : ℕ) (h : k < length table) where
   unfolding ascii table sort_at part_of prints every
   phrase-prints = every-at (λ s. prints (form s)) table k (sort 0 (Always 0) "") refl h
 
-  -- it has at most 128 bytes, and no line of it more than 160
-  pub phrase-short : length (phrase_at k) ≤ 128
-  unfolding ascii table sort_at phrase_at every
-  phrase-short = leb-true (length (phrase_at k)) 128 (every-at (λ s. leb (length (ascii s.phrase)) 128) table k (sort 0 (Always 0) "") refl h)
-
-  pub line-short : most (form (sort_at k)) ≤ 160
+  -- no line of it has more than 160
+  line-short : most (form (sort_at k)) ≤ 160
   unfolding ascii table sort_at part_of most every
   line-short = leb-true (most (form (sort_at k))) 160 (every-at (λ s. leb (most (form s)) 160) table k (sort 0 (Always 0) "") refl h)
+
+-- and so no line of a refusal
+pub line_bound : (r : Refusal) → most (map part_of (phrase_at (facts_of r).sort)) ≤ 160
+unfolding phrase_at
+line_bound r = line-short (facts_of r).sort (sort-inside r)
 
 -- ---- the sorts one by one, as code tries them
 
@@ -84,17 +86,17 @@ module _ (line : List ℕ) (k : ℕ) (h : k < length table) where
   sort-next = drop-cons table k (sort 0 (Always 0) "") h
 
   -- the line is of this sort, or of one behind it
-  pub sort-found : (p : ℕ) → matched (map part_of (phrase_at k)) (At (place_said (sort_at k).place)) line ≡ At p
-      → read_from (drop k table) line ≡ Reason (sort_at k).number p
+  pub sort-found : (p : ℕ) → matched (map part_of (phrase_at k)) (Some (place_said (sort_at k).place)) line ≡ Some p
+      → read_from (drop k table) line ≡ reason_at (sort_at k).number p
   unfolding read_from read_as phrase_at
   sort-found p e = rw (sort-next, e)
 
-  pub sort-later : matched (map part_of (phrase_at k)) (At (place_said (sort_at k).place)) line ≡ Nowhere
+  pub sort-later : matched (map part_of (phrase_at k)) (Some (place_said (sort_at k).place)) line ≡ None
       → read_from (drop k table) line ≡ read_from (drop (k + 1) table) line
   unfolding read_from read_as phrase_at
   sort-later e = rw (sort-next, e, add-one)
 
 -- none is left
-pub sort-none : (line : List ℕ) (k : ℕ) → length table ≤ k → read_from (drop k table) line ≡ NoReason
+pub sort-none : (line : List ℕ) (k : ℕ) → length table ≤ k → read_from (drop k table) line ≡ None
 unfolding read_from
 sort-none line k h = rw (drop_of_length-le table h)

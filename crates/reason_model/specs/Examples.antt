@@ -1,6 +1,7 @@
 -- A line for each number and each place of 4, with number and place had again from it, and lines that are no reason, computed in one
 -- table. Assumes nothing.
-use Rattle.std.specs.Prelude.{◌≡◌, Bool, true, not, ◌||◌, List, [], ◌∷◌, ◌++◌, map, ℕ, eqb, length, take}
+use Rattle.reason_model.specs.declared.Reason.{Reason}
+use Rattle.std.specs.Prelude.{◌≡◌, Bool, true, not, ◌||◌, List, [], ◌∷◌, ◌++◌, map, ℕ, eqb, length, take, Option, None}
 use Prim.Native.String.{String}
 use Rattle.decimal_model.specs.Ascii.{ascii}
 use Rattle.lines.specs.Text.{same}
@@ -10,19 +11,17 @@ use Rattle.refusals.specs.declared.TreeRefusal.TheVariants.{NodeNames, NodeLine,
 use Rattle.refusals.specs.declared.Conflict.TheVariants.{Orders, Routers, Sensors, SinkDepth, SinkBranches, FrameLength, Unacknowledged}
 use Rattle.refusals.specs.Table.{Sort, table, place_said}
 use Rattle.measure.specs.Measures.{slots}
-use Rattle.reason_model.specs.declared.ReasonRead.{ReasonRead}
-use Rattle.reason_model.specs.declared.ReasonRead.TheVariants.{Reason, NoReason}
 use Rattle.reason_model.specs.Reasons.{column_name, reason}
-use Rattle.reason_model.specs.Reading.{read_reason}
+use Rattle.reason_model.specs.Reading.{read_reason, reason_at}
 
 -- a refusal, its line, and its number and place
 pub record Example : Type 0 where
   pub refusal : Refusal
   pub line : String
-  pub reading : ReasonRead
+  pub reading : Option Reason
 
 abbrev pub example : Refusal → String → ℕ → ℕ → Example
-example r l n p = record { refusal = r; line = l; reading = Reason n p }
+example r l n p = record { refusal = r; line = l; reading = reason_at n p }
 
 unfoldable pub examples : List Example
 examples =
@@ -83,7 +82,7 @@ others =
     ∷ []
 
 abbrev pub OthersHold : Type 0
-OthersHold = map (λ (s : String). read_reason (ascii s)) others ≡ map (λ (s : String). NoReason) others
+OthersHold = map (λ (s : String). read_reason (ascii s)) others ≡ map (λ (s : String). None) others
 
 -- "the column's name": a phrase of number 4 begins with that of the column at its place
 unfoldable pub begins_named : Sort → Bool

@@ -1,21 +1,10 @@
 -- What the inner functions answer. Nobody has to believe this: the public functions' contracts do not use it. Assumes nothing: these are
 -- definitions.
-use Rattle.std.specs.Prelude.{ℕ, ◌+◌, List, [], ◌∷◌, ◌++◌, map, length}
+use Rattle.std.specs.Prelude.{ℕ, ◌+◌, List, [], ◌∷◌, map}
 use Rattle.decimal_model.specs.Ascii.{ascii}
 use Rattle.settings_model.specs.Columns.{Column, every_column}
 use Rattle.refusals.specs.Table.{Sort, table}
 use Rattle.reason_model.specs.Reasons.{Part, Byte, Name, Place, Value}
-
--- ---- texts that stand one behind another in a constant
-
-unfoldable pub joined : List (List ℕ) → List ℕ
-joined [] = []
-joined (t ∷ ts) = t ++ joined ts
-
--- where each starts, from n on, and where the last one ends
-unfoldable pub starts_from : ℕ → List (List ℕ) → List ℕ
-starts_from n [] = n ∷ []
-starts_from n (t ∷ ts) = n ∷ starts_from (n + length t) ts
 
 -- the sorts' phrases
 unfoldable pub phrases : List (List ℕ)

@@ -1,11 +1,9 @@
 -- A refusal as one line of English (document 02, E1): "the number's phrase, the column's name or the depth, and the values concerned".
 -- Assumes nothing: these are definitions.
-use Rattle.std.specs.Prelude.{ℕ, ◌-◌, Bool, cond, ◌&&◌, List, [], ◌∷◌, ◌++◌, map, leb, eqb, length, get_or, drop}
+use Rattle.std.specs.Prelude.{ℕ, ◌-◌, Bool, cond, ◌&&◌, List, [], ◌∷◌, ◌++◌, map, leb, eqb, length, get_or, drop, Result, Ok, Err}
 use Rattle.decimal_model.specs.Ascii.{ascii}
 use Rattle.decimal_model.specs.Decimal.{decimal}
 use Rattle.refusals.specs.declared.Refusal.{Refusal}
-use Rattle.refusals.specs.declared.Verdict.{Verdict}
-use Rattle.refusals.specs.declared.Verdict.TheVariants.{Kept, Broken}
 use Rattle.refusals.specs.Table.{sort_at}
 use Rattle.refusals.specs.Refusals.{facts_of, place_of}
 use Rattle.settings_model.specs.Columns.{every_column, column_at}
@@ -56,6 +54,6 @@ unfoldable pub reason : Refusal → List ℕ
 reason r = filled (place_of r) (map part_of (phrase_at (facts_of r).sort)) ((facts_of r).first ∷ (facts_of r).second ∷ [])
 
 -- the line of a row that is refused, or planned
-unfoldable pub verdict_line : Verdict → List ℕ
-verdict_line Kept = ascii "The row is planned."
-verdict_line (Broken r) = reason r
+unfoldable pub verdict_line : Result ℕ Refusal → List ℕ
+verdict_line (Ok n) = ascii "The row is planned."
+verdict_line (Err r) = reason r

@@ -10,9 +10,9 @@ ghost use Rattle.reason_model.specs.Reasons.{reason, verdict_line};
 
 use crate::filling::put_filled;
 use buffer::put_bytes;
-use reason_table::phrases::put_phrase;
+use reason_table::phrases::phrase;
+use refusals::Refusal;
 use refusals::cases::facts_of;
-use refusals::{Refusal, Verdict};
 
 mod filling; // a phrase with its gaps filled
 
@@ -20,25 +20,30 @@ mod filling; // a phrase with its gaps filled
 pub const LONGEST: usize = 160;
 
 // Puts the line of a refusal, and answers its length.
+#[tactic(auto, using(reason_model::proofs::Sorts::line_bound), unfolding(reason_model::specs::Reasons::reason, refusals::specs::Refusals::place_of))]
 pub fn put_reason(out: &mut [u8], refusal: Refusal) -> usize
     ensures value { result ≡ length (reason refusal) }
     ensures upper_bound { result ≤ 160 }
     ensures out_after { out.new ≡ sets out.old 0 (reason refusal) }
 {
     let facts = facts_of(refusal);
-    let mut phrase = [0u8; 128];
-    let n = put_phrase(&mut phrase, facts.sort);
-    put_filled(out, &phrase[..n], facts.place, facts.first, facts.second)
+    put_filled(
+        out,
+        phrase(facts.sort),
+        facts.place,
+        &[facts.first, facts.second],
+    )
 }
 
-// Puts the line of a row that was refused, or that it is planned, and answers its length.
-pub fn put_verdict(out: &mut [u8], verdict: Verdict) -> usize
-    ensures value { result ≡ length (verdict_line verdict) }
+// Puts the line of a row that was refused, or that it is planned, and answers its length. How long the plan is plays no part.
+#[tactic(auto, unfolding(reason_model::specs::Reasons::verdict_line, decimal_model::specs::Ascii::ascii))]
+pub fn put_verdict(out: &mut [u8], planned: Result<usize, Refusal>) -> usize
+    ensures value { result ≡ length (verdict_line planned) }
     ensures upper_bound { result ≤ 160 }
-    ensures out_after { out.new ≡ sets out.old 0 (verdict_line verdict) }
+    ensures out_after { out.new ≡ sets out.old 0 (verdict_line planned) }
 {
-    if let Verdict::Broken(refusal) = verdict {
-        return put_reason(out, refusal);
+    match planned {
+        Ok(_) => put_bytes(out, 0, b"The row is planned."),
+        Err(refusal) => put_reason(out, refusal),
     }
-    put_bytes(out, 0, b"The row is planned.")
 }

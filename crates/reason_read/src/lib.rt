@@ -7,27 +7,24 @@ ghost use Rattle.std.specs.Prelude.{◌≡◌};
 ghost use Rattle.reason_model.specs.Reading.{read_reason};
 
 use crate::matching::match_sort;
-use reason_model::{Match, ReasonRead};
+use reason_model::Reason;
 use refusals::table::{SORTS, number_at};
 
 mod numbers; // numbers in decimal, of any length
 mod names; // columns by their names
 mod matching; // a line against a phrase
 
-// Number and place of a line without its LF.
-pub fn read_reason(line: &[u8]) -> ReasonRead
+// Number and place of the refusal whose line, without its LF, it is; none where it is no such line.
+pub fn read_reason(line: &[u8]) -> Option<Reason>
     ensures { result ≡ read_reason line.now }
 {
-    let mut sort = 0;
-    while sort < SORTS {
-        let found = match_sort(line, sort);
-        if let Match::At(place) = found {
-            return ReasonRead::Reason {
+    for sort in 0..SORTS {
+        if let Some(place) = match_sort(line, sort) {
+            return Some(Reason {
                 number: number_at(sort),
                 place,
-            };
+            });
         }
-        sort += 1;
     }
-    ReasonRead::NoReason
+    None
 }

@@ -1,142 +1,73 @@
 // A line against a phrase, part by part.
-ghost use Rattle.std.specs.Prelude.{◌≡◌, cond, [], ◌∷◌, map, ◌+◌, ◌≤◌, min, length, drop};
-ghost use Rattle.lines.specs.Text.{same};
+ghost use Rattle.std.specs.Prelude.{◌≡◌, map, ◌≤◌, length, Some};
+ghost use Rattle.std.specs.List.{prefix_len};
 ghost use Rattle.refusals.specs.Table.{sort_at, place_said};
-ghost use Rattle.reason_model.specs.declared.Match.TheVariants.{At, Nowhere};
 ghost use Rattle.reason_model.specs.Reasons.{phrase_at, part_of};
-ghost use Rattle.reason_model.specs.Reading.{word_byte, word_length, extent, meant, matched};
+ghost use Rattle.reason_model.specs.Reading.{word_byte, extent, meant, matched};
 
 use crate::names::column_in;
 use crate::numbers::{is_numeral, place_in};
-use decimal::is_digit;
-use reason_model::Match;
-use reason_table::phrases::put_phrase;
+use reason_table::phrases::phrase;
 use refusals::table::place_at;
 
 // The place that a line has, where it is the phrase of this sort with its gaps filled.
-pub(crate) fn match_sort(line: &[u8], sort: usize) -> Match
-    ensures { result ≡ matched (map part_of (phrase_at sort)) (At (place_said (sort_at sort).place)) line.now }
+pub(crate) fn match_sort(line: &[u8], sort: usize) -> Option<u32>
+    ensures { result ≡ matched (map part_of (phrase_at sort)) (Some (place_said (sort_at sort).place)) line.now }
 {
-    let mut phrase = [0u8; 128];
-    let n = put_phrase(&mut phrase, sort);
-    match_phrase(line, &phrase[..n], place_at(sort))
+    match_phrase(line, phrase(sort), place_at(sort))
 }
 
 // The place that a line has, where it is this phrase with its gaps filled, and that place where the phrase does not say it.
-fn match_phrase(line: &[u8], phrase: &[u8], place: u32) -> Match
-    ensures { result ≡ matched (map part_of phrase.now) (At place) line.now }
+fn match_phrase(line: &[u8], phrase: &[u8], place: u32) -> Option<u32>
+    ensures { result ≡ matched (map part_of phrase.now) (Some place) line.now }
 {
     let mut place = place;
-    let mut at = 0;
-    let mut k = 0;
-    while k < phrase.len() {
-        let part = phrase[k];
-        let end = part_end(line, at, part);
-        let found = meaning(&line[at..end], part, place);
-        let Match::At(next) = found else {
-            return Match::Nowhere;
-        };
-        place = next;
-        at = end;
-        k += 1;
+    let mut rest = line;
+    for part in phrase {
+        let (read, behind) = rest.split_at(extent(rest, *part));
+        place = meaning(read, *part, place)?;
+        rest = behind;
     }
-    if at < line.len() {
-        return Match::Nowhere;
-    }
-    Match::At(place)
+    rest.is_empty().then_some(place)
 }
 
-// The place after a word was read for a part, where it was that before.
-fn meaning(word: &[u8], part: u8, place: u32) -> Match
+// The place after bytes were read for a part, where it was that before.
+#[tactic(auto, using(reason_model::proofs::Words::told_same), unfolding(reason_model::specs::Reasons::part_of, reason_model::specs::Reading::meant))]
+fn meaning(word: &[u8], part: u8, place: u32) -> Option<u32>
     ensures { result ≡ meant place (part_of part) word.now }
 {
-    if part == 64 {
-        return column_in(word);
+    match part {
+        b'@' => column_in(word),
+        b'%' => place_in(word),
+        b'#' => is_numeral(word).then_some(place),
+        byte => (word == [byte].as_slice()).then_some(place),
     }
-    if part == 37 {
-        return place_in(word);
-    }
-    if part == 35 {
-        return kept_where(is_numeral(word), place);
-    }
-    kept_where(is_byte(word, part), place)
 }
 
-// The place as it was, where a test holds.
-fn kept_where(holds: bool, place: u32) -> Match
-    ensures { result ≡ cond holds (At place) Nowhere }
+// How many bytes at the front of a text are a part's: one, or a word.
+#[tactic(auto, using(reason_model::proofs::Words::word_front), unfolding(reason_model::specs::Reasons::part_of, reason_model::specs::Reading::extent))]
+fn extent(text: &[u8], part: u8) -> usize
+    ensures value { result ≡ extent (part_of part) text.now }
+    ensures upper_bound { result ≤ length text.now }
 {
-    if holds {
-        return Match::At(place);
+    match part {
+        b'@' | b'%' | b'#' => word_length(text),
+        _ => text.len().min(1),
     }
-    Match::Nowhere
 }
 
-// Whether a word is this byte alone.
-fn is_byte(word: &[u8], b: u8) -> bool
-    ensures { result ≡ same word.now (b ∷ []) }
+// How many bytes at the front of a text are of its first word.
+fn word_length(text: &[u8]) -> usize
+    ensures value { result ≡ prefix_len word_byte text.now }
+    ensures upper_bound { result ≤ length text.now }
 {
-    if word.len() == 1 {
-        return word[0] == b;
-    }
-    false
-}
-
-// Where a part that starts at a position ends: one byte behind it, or with a word.
-fn part_end(line: &[u8], at: usize, part: u8) -> usize
-    requires { at ≤ length line.now }
-    ensures value { result ≡ at + extent (part_of part) (drop at line.now) }
-    ensures upper_bound { result ≤ length line.now }
-{
-    if part == 64 {
-        return word_end(line, at);
-    }
-    if part == 37 {
-        return word_end(line, at);
-    }
-    if part == 35 {
-        return word_end(line, at);
-    }
-    byte_end(line, at)
-}
-
-// One byte behind a position, or the line's end.
-fn byte_end(line: &[u8], from: usize) -> usize
-    requires { from ≤ length line.now }
-    ensures value { result ≡ from + min 1 (length (drop from line.now)) }
-    ensures upper_bound { result ≤ length line.now }
-{
-    if from < line.len() {
-        return from + 1;
-    }
-    from
-}
-
-// Where the word at a position ends.
-fn word_end(line: &[u8], at: usize) -> usize
-    requires { at ≤ length line.now }
-    ensures value { result ≡ at + word_length (drop at line.now) }
-    ensures upper_bound { result ≤ length line.now }
-{
-    let mut end = at;
-    while end < line.len() {
-        if !is_word_byte(line[end]) {
-            return end;
-        }
-        end += 1;
-    }
-    end
+    text.iter().take_while(|byte| is_word_byte(**byte)).count()
 }
 
 // A digit or a capital.
-fn is_word_byte(b: u8) -> bool
-    ensures { result ≡ word_byte b }
+#[tactic(auto, unfolding(reason_model::specs::Reading::word_byte))]
+fn is_word_byte(byte: u8) -> bool
+    ensures { result ≡ word_byte byte }
 {
-    if is_digit(b) {
-        return true;
-    }
-    if b < 65 {
-        return false;
-    }
-    b <= 90
+    byte.is_ascii_digit() || byte.is_ascii_uppercase()
 }

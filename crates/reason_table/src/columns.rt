@@ -1,41 +1,34 @@
 // Columns by their names (document 01, 'Rows of settings'; document 02, E5).
-ghost use Rattle.std.specs.Prelude.{◌≡◌, length};
+ghost use Rattle.std.specs.Prelude.{◌≡◌, true, false, length, MatchOption};
 ghost use Rattle.std.proofs.lemmas.List.Edits.{sets};
-ghost use Rattle.reason_model.specs.Reasons.{column_name};
+ghost use Rattle.reason_model.specs.Reasons.{named, column_name};
 
-use crate::texts::put_between;
+use buffer::put_bytes;
 use decimal::put_number;
 
-// The columns' names, one behind another.
-const NAMES: [u8; 40] = *b"\
-    BO\
-    SO\
-    H\
-    NR\
-    NE\
-    OWN\
-    SINK\
-    BURST\
-    RATE\
-    HEAD\
-    DATA\
-    ACK\
-    LOSS";
+// The names, in the columns' order. The first column is 1.
+static NAMES: [&[u8]; 13] = [
+    b"BO", b"SO", b"H", b"NR", b"NE", b"OWN", b"SINK", b"BURST", b"RATE", b"HEAD", b"DATA", b"ACK",
+    b"LOSS",
+];
 
-// Where each starts, and where the last one ends.
-const STARTS: [usize; 14] = [0, 2, 4, 5, 7, 9, 12, 16, 21, 25, 29, 33, 36, 40];
+// The name of a column, where it has one.
+pub fn name(column: u32) -> Option<&'static [u8]>
+    ensures { MatchOption result (named column ≡ false) (λ text. (named column ≡ true) × (text.now ≡ column_name column)) }
+{
+    match column {
+        1..=13 => Some(NAMES[column as usize - 1]),
+        _ => None,
+    }
+}
 
 // Puts the name of a column at a position, or its number where it has no name, and answers how long it is.
 pub fn put_column(out: &mut [u8], at: usize, column: u32) -> usize
     ensures value { result ≡ length (column_name column) }
     ensures out_after { out.new ≡ sets out.old at (column_name column) }
 {
-    if column < 1 {
-        return put_number(out, at, column as u64);
+    match name(column) {
+        Some(text) => put_bytes(out, at, text),
+        None => put_number(out, at, u64::from(column)),
     }
-    if 13 < column {
-        return put_number(out, at, column as u64);
-    }
-    let k = column as usize;
-    put_between(out, at, &NAMES, STARTS[k - 1], STARTS[k])
 }

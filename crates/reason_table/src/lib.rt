@@ -4,6 +4,5 @@
 // lent memory as far as there is room.
 #![tactic(auto)]
 
-mod texts; // one of several texts in a constant
 pub mod columns; // columns by their names
 pub mod phrases; // the phrase of each sort

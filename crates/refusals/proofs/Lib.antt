@@ -13,3 +13,5 @@ pub mod Sorts
 pub mod Limits
 -- all that number and place are computed with
 pub mod Computing
+-- the rows of the table as the code has them
+pub mod Rows

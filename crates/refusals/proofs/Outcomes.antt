@@ -1,6 +1,6 @@
 -- Outcomes, whatever the sort of plan. Assumes nothing.
-use mathlib.Core.Path.{◌≡◌, sym, ap}
-use mathlib.Core.Bool.{Bool, true, false, cond, false≢true}
+use mathlib.Core.Path.{◌≡◌, sym}
+use mathlib.Core.Bool.{Bool, true, false, cond}
 use mathlib.Core.List.{List, [], ◌∷◌}
 use Rattle.refusals.specs.declared.Refusal.{Refusal}
 use Rattle.refusals.specs.Conditions.{Condition, first_broken, Unbroken}
@@ -10,19 +10,11 @@ use Rattle.refusals.proofs.Unbroken.{unbroken-first, first-unbroken}
 module _ {P : Type 0} where
   -- a refusal is no plan
   pub no-plan : (p : P) (r : Refusal) → Refused r ≡ Planned p → ⊥
-  no-plan p r e = false≢true (ap planned e)
-    where
-      planned : Outcome P → Bool
-      planned (Planned q) = true
-      planned (Refused x) = false
+  no-plan p r e = cc
 
   -- and a plan is known by what it holds
   pub same-plan : (p q : P) → Planned p ≡ Planned q → p ≡ q
-  same-plan p q e = ap held e
-    where
-      held : Outcome P → P
-      held (Planned l) = l
-      held (Refused x) = p
+  same-plan p q e = cc
 
   -- planned: no condition is broken, and the plan is the one that was to be had
   pub planned-unbroken : (own p : P) (cs : List (Condition Refusal)) → first_broken Refused (Planned own) cs ≡ Planned p → Unbroken cs × (own ≡ p)

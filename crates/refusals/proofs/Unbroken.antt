@@ -1,11 +1,11 @@
 -- Lists of conditions of which none is broken. Assumes nothing.
+use Rattle.std.specs.Prelude.{Ok, Err}
 use mathlib.Core.Path.{◌≡◌, refl}
 use mathlib.Core.Bool.{Bool, true, false, cond}
 use mathlib.Core.List.{List, [], ◌∷◌, ◌++◌}
 use Rattle.refusals.specs.declared.Refusal.{Refusal}
-use Rattle.refusals.specs.declared.Verdict.TheVariants.{Kept, Broken}
-use Rattle.refusals.specs.Conditions.{Condition, first_broken, Unbroken}
-use Rattle.refusals.proofs.Answering.{verdict, broken-kept}
+use Rattle.refusals.specs.Conditions.{Condition, first_broken, Unbroken, verdict}
+use Rattle.refusals.proofs.Answering.{broken-kept}
 
 -- where none is broken, the answer is the one for that
 pub unbroken-first : {R A : Type 0} (f : R → A) (a : A) (cs : List (Condition R)) → Unbroken cs → first_broken f a cs ≡ a
@@ -25,8 +25,8 @@ first-unbroken f a b other (c ∷ cs) e = by c.broken refl e (first-unbroken f a
   by false q g h = let u = h g in ((q, u.0), u.1)
 
 -- a verdict that all is kept: none is broken
-pub kept-unbroken : (cs : List (Condition Refusal)) → verdict cs ≡ Kept → Unbroken cs
-kept-unbroken cs e = (first-unbroken Broken Kept Kept broken-kept cs e).0
+pub kept-unbroken : (cs : List (Condition Refusal)) → verdict cs ≡ Ok tt → Unbroken cs
+kept-unbroken cs e = (first-unbroken Err (Ok tt) (Ok tt) broken-kept cs e).0
 
 pub unbroken-append : {R : Type 0} (xs ys : List (Condition R)) → Unbroken xs → Unbroken ys → Unbroken (xs ++ ys)
 unbroken-append [] ys u v = v

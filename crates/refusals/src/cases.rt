@@ -6,6 +6,7 @@ use crate::table::place_at;
 use crate::{Conflict, Facts, Refusal, TreeRefusal};
 
 // What is told of a refusal.
+#[tactic(auto, unfolding(crate::specs::Refusals::facts_of))]
 pub fn facts_of(refusal: Refusal) -> Facts
     ensures { result ≡ facts_of refusal }
 {
@@ -32,6 +33,7 @@ pub fn facts_of(refusal: Refusal) -> Facts
 }
 
 // Of values at odds.
+#[tactic(auto, unfolding(crate::specs::Refusals::conflict_facts))]
 fn conflict_facts(conflict: Conflict) -> Facts
     ensures { result ≡ conflict_facts conflict }
 {
@@ -47,6 +49,7 @@ fn conflict_facts(conflict: Conflict) -> Facts
 }
 
 // Of a surveyed tree's refusal.
+#[tactic(auto, unfolding(crate::specs::Refusals::tree_facts))]
 fn tree_facts(refusal: TreeRefusal) -> Facts
     ensures { result ≡ tree_facts refusal }
 {

@@ -102,7 +102,7 @@ pub enum TreeRefusal {
 }
 
 // What is told of a refusal: the position of its sort in the table, its place, and the values concerned, of which the sort's phrase takes
-// none, one or both.
+// none, one or both. Stays as it is: `sort` is a position and no enum, since the table's numbers, places and phrases are got by it.
 #[derive(Clone, Copy)]
 pub struct Facts {
     pub sort: usize,
@@ -113,6 +113,7 @@ pub struct Facts {
 
 impl Refusal {
     // The number that the papers give it.
+    #[tactic(auto, unfolding(crate::specs::Refusals::number_of))]
     pub fn number(self) -> u32
         ensures { result ≡ number_of self }
     {
@@ -120,16 +121,10 @@ impl Refusal {
     }
 
     // The place that they give it.
+    #[tactic(auto, unfolding(crate::specs::Refusals::place_of))]
     pub fn place(self) -> u32
         ensures { result ≡ place_of self }
     {
         facts_of(self).place
     }
-}
-
-// The first broken condition of some that were checked, or none.
-#[derive(Clone, Copy)]
-pub enum Verdict {
-    Kept,
-    Broken(Refusal),
 }

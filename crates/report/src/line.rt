@@ -1,79 +1,64 @@
-// One line of a plan.
-ghost use Rattle.std.specs.Prelude.{◌≡◌, [], ◌∷◌, ◌++◌, ◌+◌, ◌^◌, ◌≤◌, ◌<◌, length};
+// One line of a plan, and that of a refusal: a letter, numbers in decimal, each behind a space, and LF.
+ghost use Rattle.std.specs.Prelude.{◌≡◌, ◌∷◌, ◌++◌, ◌+◌, ◌*◌, ◌^◌, ◌≤◌, ◌<◌, length};
 ghost use Rattle.std.proofs.lemmas.List.Edits.{sets};
 ghost use Rattle.decimal_model.specs.Decimal.{decimal};
 ghost use Rattle.plan_model.specs.Lines.{letter};
-ghost use Rattle.report_model.specs.Text.{line_text};
-ghost use Rattle.report_model.specs.TreeText.{node_text};
+ghost use Rattle.report_model.specs.Inner.{spaced, row};
 
 use buffer::put_byte;
 use decimal::put_number;
-use plan_model::{Kind, Line, NodeLine};
+use plan_model::Kind;
 
-// Puts a line and its LF at a position, and answers the position behind them, which must not wrap.
-pub(crate) fn put_ended(out: &mut [u8], at: usize, line: Line) -> usize
-    requires { at + 170 < 2 ^ 64 }
-    ensures value { result ≡ at + length (line_text line ++ 10 ∷ []) }
-    ensures upper_bound { result ≤ at + 170 }
-    ensures out_after { out.new ≡ sets out.old at (line_text line ++ 10 ∷ []) }
+// Puts a letter, numbers, more numbers and LF at a position, as far as there is room, and answers how long they are.
+pub(crate) fn put_row(out: &mut [u8], at: usize, letter: u8, numbers: &[u64], more: &[u64]) -> usize
+    requires { length numbers.now + length more.now ≤ 9 }
+    ensures value { result ≡ length (row letter (numbers.now ++ more.now)) }
+    ensures upper_bound { result ≤ 2 + 21 * (length numbers.now + length more.now) }
+    ensures out_after { out.new ≡ sets out.old at (row letter (numbers.now ++ more.now)) }
 {
-    let end = put_columns(out, at, line);
-    put_byte(out, end, 0, 10);
-    end + 1
+    // A position behind the end counts as the end, where there is no room either: so no position behind it wraps.
+    let start = at.min(out.len());
+    put_byte(out, start, 0, letter);
+    let end = put_spaced(out, start + 1, numbers);
+    let end = put_spaced(out, end, more);
+    put_byte(out, end, 0, b'\n');
+    end + 1 - start
 }
 
-// The same for a node's line: document 01's columns, ROUTE and LF.
-pub(crate) fn put_node_ended(out: &mut [u8], at: usize, node: NodeLine) -> usize
-    requires { at + 191 < 2 ^ 64 }
-    ensures value { result ≡ at + length (node_text node ++ 10 ∷ []) }
-    ensures upper_bound { result ≤ at + 191 }
-    ensures out_after { out.new ≡ sets out.old at (node_text node ++ 10 ∷ []) }
+// Puts numbers at a position, each behind a space, and answers the position behind them, which must not wrap.
+fn put_spaced(out: &mut [u8], at: usize, numbers: &[u64]) -> usize
+    requires { at + 21 * length numbers.now < 2 ^ 64 }
+    ensures value { result ≡ at + length (spaced numbers.now) }
+    ensures upper_bound { result ≤ at + 21 * length numbers.now }
+    ensures out_after { out.new ≡ sets out.old at (spaced numbers.now) }
 {
-    let end = put_columns(out, at, node.line);
-    let end = put_spaced(out, end, node.route.0);
-    put_byte(out, end, 0, 10);
-    end + 1
-}
-
-// Puts a line without its LF at a position, and answers the position behind it, which must not wrap.
-fn put_columns(out: &mut [u8], at: usize, line: Line) -> usize
-    requires { at + 169 < 2 ^ 64 }
-    ensures value { result ≡ at + length (line_text line) }
-    ensures upper_bound { result ≤ at + 169 }
-    ensures out_after { out.new ≡ sets out.old at (line_text line) }
-{
-    let kind = line.kind;
-    let f = line.figures;
-    put_byte(out, at, 0, letter_of(kind));
-    let end = put_spaced(out, at + 1, line.depth);
-    let end = put_spaced(out, end, f.rate.0);
-    let end = put_spaced(out, end, f.burst.0);
-    let end = put_spaced(out, end, f.slots.0);
-    let end = put_spaced(out, end, f.frames.0);
-    let end = put_spaced(out, end, f.latency.0);
-    let end = put_spaced(out, end, f.buffer.0);
-    put_spaced(out, end, f.delay.0)
+    let mut end = at;
+    for number in numbers {
+        end = put_one(out, end, *number);
+    }
+    end
 }
 
 // Puts a space and a number in decimal at a position, and answers the position behind them, which must not wrap.
-pub(crate) fn put_spaced(out: &mut [u8], at: usize, n: u64) -> usize
+fn put_one(out: &mut [u8], at: usize, n: u64) -> usize
     requires { at + 21 < 2 ^ 64 }
     ensures value { result ≡ at + length (32 ∷ decimal n) }
     ensures upper_bound { result ≤ at + 21 }
     ensures out_after { out.new ≡ sets out.old at (32 ∷ decimal n) }
 {
-    put_byte(out, at, 0, 32);
+    put_byte(out, at, 0, b' ');
     at + 1 + put_number(out, at + 1, n)
 }
 
 // KIND's letter.
-fn letter_of(kind: Kind) -> u8
+#[tactic(auto, unfolding(plan_model::specs::Lines::letter))]
+pub(crate) fn letter_of(kind: Kind) -> u8
     ensures { result ≡ letter kind }
 {
     match kind {
-        Kind::EndNode => 69,
-        Kind::Upward => 85,
-        Kind::Downward => 68,
-        Kind::Sink => 83,
+        Kind::EndNode => b'E',
+        Kind::Upward => b'U',
+        Kind::Downward => b'D',
+        Kind::Sink => b'S',
     }
 }

@@ -1,5 +1,5 @@
 -- Laws about the definitions of specs/. Assumes nothing.
--- lines and texts, piece by piece
+-- lines and refusals, number by number
 pub mod LineText
 -- no two plans have the same text
 pub mod OneText

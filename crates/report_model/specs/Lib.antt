@@ -7,3 +7,5 @@ pub mod TreeText
 pub mod Laws
 -- a line, a text and refusals' lines, computed in one table
 pub mod Examples
+-- what the inner functions put
+pub mod Inner

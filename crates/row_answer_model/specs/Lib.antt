@@ -5,5 +5,3 @@ pub mod Outcomes
 pub mod Laws
 -- document 01's examples of refusals 1 to 7, and which of several answers, computed in one table
 pub mod Examples
--- what the inner function answers: the outcome of a row that was read
-pub mod Inner

@@ -31,11 +31,10 @@ pub fn plan_row(names: &[u8], row: &[u8], out: &mut [u8]) -> Answer
     ensures out_after { left result out.new ≡ plan_row names.now row.now out.old }
     ensures promised { Promised row.now result out.new }
 {
-    let plan = plan_named_row(names, row, out);
-    if out.len() < plan.length {
-        return refused(Refusal::LentTooShort);
+    match plan_named_row(names, row, out) {
+        Ok(length) if out.len() < length => refused(Refusal::LentTooShort),
+        planned => answer_of(planned),
     }
-    answer_of(plan)
 }
 
 // Puts the line of a row under a line of names, both without their LF: why it is refused, or that it is planned. A buffer that is shorter
@@ -47,8 +46,7 @@ pub fn explain_row(names: &[u8], row: &[u8], out: &mut [u8]) -> Answer
     let mut table = [0u64; 1];
     let decided = decide_named_row(names, row, &mut table);
     let answer = answer_of(decided);
-    let verdict = decided.verdict;
     let mut line = [0u8; reason_print::LONGEST];
-    let n = put_verdict(&mut line, verdict);
+    let n = put_verdict(&mut line, decided);
     leave(answer.number, answer.place, &line[..n], out)
 }

@@ -33,7 +33,7 @@ examples-hold = record {
 }
 
 pub spoken-hold : Spoken
-unfolding answered worded answer_to_refusal answer_to plans.planned plans.refused plans.answer line_left row_line explain_row lent line explained
+unfolding answered worded answer_to_refusal answer_to plans.answer line_left row_line explain_row lent line explained
 spoken-hold = record {
   exact = refl;
   more = refl;

@@ -22,7 +22,7 @@ check_row names row = answer_to text (named_outcome names row)
 
 -- the line of a row under a name line: why it is refused with one of numbers 1 to 7, or that it is planned
 unfoldable pub row_line : List ℕ → List ℕ → List ℕ
-row_line names row = verdict_line (answer text (named_outcome names row)).verdict
+row_line names row = verdict_line (answer text (named_outcome names row))
 
 -- the entry that puts the line of a row: it answers number and place of the refusal, 0 and 0 where the row is planned
 unfoldable pub explain_row : List ℕ → List ℕ → List ℕ → Left

@@ -6,58 +6,54 @@
 
 ghost use Rattle.std.specs.Prelude.{◌≡◌, ◌≤◌, ◌^◌, suc};
 ghost use Rattle.network.specs.Counting.{total};
-ghost use Rattle.refusals.specs.declared.Verdict.TheVariants.{Kept, Broken};
-ghost use Rattle.refusals.specs.Conditions.{first_broken};
+ghost use Rattle.refusals.specs.Conditions.{verdict};
 ghost use Rattle.settings_model.specs.Laws.{Checked};
 ghost use Rattle.row_model.specs.Checks.{reservations, routers_fit};
 ghost use Rattle.row_plan_model.specs.Inner.{checks_before_slots};
 
-use refusals::{Refusal, Verdict};
+use refusals::Refusal;
 use settings_model::Settings;
 
 // The reservations that a superframe describes, at most.
 const MOST_RESERVATIONS: u64 = 7;
 
 // Numbers 3 to 6, in their order.
-pub fn check_before_slots(s: Settings) -> Verdict
-    ensures { result ≡ first_broken Broken Kept (checks_before_slots s) }
+#[tactic(auto, using(refusals::proofs::Answering::two_verdicts), unfolding(row_plan_model::specs::Inner::checks_before_slots))]
+pub fn check_before_slots(s: Settings) -> Result<(), Refusal>
+    ensures { result ≡ verdict (checks_before_slots s) }
 {
-    let verdict = settings::check(s);
-    if let Verdict::Broken(_) = verdict {
-        return verdict;
-    }
-    let verdict = reservations_fit(s);
-    if let Verdict::Broken(_) = verdict {
-        return verdict;
-    }
+    settings::check(s)?;
+    reservations_fit(s)?;
     routers_fit(s)
 }
 
 // Number 5, of checked settings.
-fn reservations_fit(s: Settings) -> Verdict
+#[tactic(auto, unfolding(row_model::specs::Checks::reservations, refusals::specs::Conditions::first_broken))]
+fn reservations_fit(s: Settings) -> Result<(), Refusal>
     requires { Checked s }
-    ensures { result ≡ first_broken Broken Kept (reservations s) }
+    ensures { result ≡ verdict (reservations s) }
 {
     if MOST_RESERVATIONS < s.ne + s.nr {
-        return Verdict::Broken(Refusal::Reservations { ne: s.ne, nr: s.nr });
+        return Err(Refusal::Reservations { ne: s.ne, nr: s.nr });
     }
-    Verdict::Kept
+    Ok(())
 }
 
 // Number 6, of checked settings.
-fn routers_fit(s: Settings) -> Verdict
+#[tactic(auto, using(plan_model::proofs::TimesMade::one_shifted), unfolding(row_model::specs::Checks::routers_fit, row_model::specs::Checks::routers, plan_model::specs::Times::superframes, refusals::specs::Conditions::first_broken))]
+fn routers_fit(s: Settings) -> Result<(), Refusal>
     requires { Checked s }
-    ensures { result ≡ first_broken Broken Kept (routers_fit s) }
+    ensures { result ≡ verdict (routers_fit s) }
 {
     let routers = routers_of(s.nr, s.h);
     let superframes = 1 << (s.bo - s.so);
     if superframes < routers {
-        return Verdict::Broken(Refusal::Superframes {
+        return Err(Refusal::Superframes {
             routers,
             superframes,
         });
     }
-    Verdict::Kept
+    Ok(())
 }
 
 // The routers of a full tree: the sum of NR^j for j = 0 to H, by Horner's rule.
@@ -67,10 +63,8 @@ fn routers_of(nr: u64, h: u64) -> u64
     ensures { result ≡ total (λ j. nr ^ j) (suc h) }
 {
     let mut routers = 1;
-    let mut i = 0;
-    while i < h {
+    for _ in 0..h {
         routers = 1 + nr * routers;
-        i += 1;
     }
     routers
 }

@@ -1,16 +1,14 @@
 // The links of a row: the load that enters each, and the reservation that its rate needs. What is required here `sound_links` meets.
-ghost use Rattle.std.specs.Prelude.{◌≡◌, ◌≤◌, ◌<◌, ◌^◌, length};
+ghost use Rattle.std.specs.Prelude.{◌≡◌, ◌<◌, ◌^◌};
 ghost use Rattle.links.specs.Answers.{Timed};
 ghost use Rattle.row_model.specs.Times.{row_timing};
 ghost use Rattle.row_model.specs.Loads.{sensor, near};
 ghost use Rattle.row_model.specs.Bounds.{Sound, Bounded};
 ghost use Rattle.row_plan_model.specs.Inner.{HeldFrom, HeldBelow, coming, joined, left_by, link_of, link_up, link_down};
-ghost use Rattle.links.specs.Link.{no_load};
 
-use crate::table::{link_at, set_link};
 use links::{Load, Reservation, Timing};
-use measure::{FrameSymbols, Frames, Rate};
-use row_plan_model::Link;
+use measure::{Frames, Rate};
+use row_plan_model::{DEPTHS, Link, NO_LOAD};
 use settings_model::Settings;
 
 // The load of a sensor.
@@ -51,35 +49,19 @@ fn joined_link(t: Timing, local: Load, below: Link, n: u64, down: Load) -> Link
     link_for(t, local.plus(left.times(n)).plus(down))
 }
 
-// No load.
-pub(crate) fn no_load() -> Load
-    ensures { result ≡ no_load }
-{
-    Load {
-        rate: Rate(0),
-        burst: FrameSymbols(0),
-    }
-}
-
-// Sets the upward links of depths H to i, by recursion from depth H towards the root, and answers that of depth i.
-pub(crate) fn upward_links(s: Settings, t: Timing, local: Load, i: u64, up: &mut [u64]) -> Link
+// Sets the upward links of depths H to 0, each from the one of the depth below it.
+pub(crate) fn upward_links(s: Settings, t: Timing, local: Load, up: &mut [Link; DEPTHS])
     requires sound { Sound s }
     requires t_value { t ≡ row_timing s }
     requires local_value { local ≡ near s }
-    requires i_le_h { i ≤ s.h }
-    requires up_len { length up.old ≡ 65 }
-    ensures value { result ≡ link_up s i }
-    ensures held_from { HeldFrom (link_up s) i s.h up.new }
+    ensures { HeldFrom (link_up s) 0 s.h up.new }
 {
-    if i == s.h {
-        let link = link_for(t, local);
-        set_link(up, i, link);
-        return link;
+    let mut link = link_for(t, local);
+    up[s.h as usize] = link;
+    for i in (0..s.h).rev() {
+        link = joined_link(t, local, link, s.nr, NO_LOAD);
+        up[i as usize] = link;
     }
-    let below = upward_links(s, t, local, i + 1, up);
-    let link = joined_link(t, local, below, s.nr, no_load());
-    set_link(up, i, link);
-    link
 }
 
 // Sets the downward links of depths 0 to SINK − 1, each from the upward link of the depth below it and the downward one above it, and
@@ -88,26 +70,23 @@ pub(crate) fn downward_links(
     s: Settings,
     t: Timing,
     local: Load,
-    up: &[u64; 65],
-    down: &mut [u64],
+    up: &[Link; DEPTHS],
+    down: &mut [Link; DEPTHS],
 ) -> Load
     requires sound { Sound s }
     requires t_value { t ≡ row_timing s }
     requires local_value { local ≡ near s }
     requires held_from { HeldFrom (link_up s) 0 s.h up.now }
-    requires down_len { length down.old ≡ 65 }
     ensures value { result ≡ coming s s.sink }
     ensures held_below { HeldBelow (link_down s) s.sink down.new }
 {
     // What comes down to depth i: nothing to the root.
-    let mut passing = no_load();
-    let mut i = 0;
-    while i < s.sink {
-        let below = link_at(up, i + 1);
+    let mut passing = NO_LOAD;
+    for i in 0..s.sink {
+        let below = up[i as usize + 1];
         let link = joined_link(t, local, below, s.nr - 1, passing);
-        set_link(down, i, link);
+        down[i as usize] = link;
         passing = link.load.after(link.reservation);
-        i += 1;
     }
     passing
 }

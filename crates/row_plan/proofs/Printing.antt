@@ -1,4 +1,5 @@
 -- What is decided, printed: the laws of any sort of line, of a row's. Assumes nothing.
+use Rattle.std.specs.Prelude.{Ok, Err}
 use mathlib.Core.Path.{◌≡◌}
 use mathlib.Core.List.{List}
 use Prim.Native.Nat.{ℕ, ◌*◌, ◌/◌, ◌≤◌, min}
@@ -6,9 +7,7 @@ use native.Mathlib.Omega.{arith}
 use lib.ListN.{length}
 use lib.Seq.{sets}
 use Rattle.refusals.specs.declared.Refusal.{Refusal}
-use Rattle.refusals.specs.declared.Verdict.TheVariants.{Kept, Broken}
 use Rattle.refusals.specs.Outcome.{Refused}
-use Rattle.plan_model.specs.declared.Plan.{Plan}
 use Rattle.plan_model.specs.Plans.{answer, written}
 use Rattle.line_table_model.proofs.Decided as decided
 use Rattle.line_table_model.specs.Rows.{row_table, lines_in}
@@ -22,10 +21,10 @@ count n = min (n / 9) 26
 pub counted : (n : ℕ) → 9 * n ≤ 234 → count (9 * n) ≡ n
 counted n h = omega arith
 
-module _ (o : RowOutcome) (d : Plan) (ed : d ≡ answer row_table o) where
-  pub decided-refused : (r : Refusal) → d.verdict ≡ Broken r → Refused r ≡ o
-  decided-refused r k = decided.decided-refused 9 234 row_table lines_in count lines-length lines-back counted o d ed r k
+module _ (o : RowOutcome) where
+  pub decided-refused : (r : Refusal) → Err r ≡ answer row_table o → Refused r ≡ o
+  decided-refused = decided.decided-refused 9 234 row_table lines_in count lines-length lines-back counted o
 
-  pub decided-back : (e table : List ℕ) → d.verdict ≡ Kept → d.length ≤ 234 → 234 ≤ length e → table ≡ sets e 0 (written row_table o)
-      → decided.Back 9 234 row_table lines_in count lines-length lines-back counted o d ed table
-  decided-back e table k low room et = decided.decided-back 9 234 row_table lines_in count lines-length lines-back counted o d ed e table k low room et
+  pub decided-back : (n : ℕ) (e table : List ℕ) → Ok n ≡ answer row_table o → n ≤ 234 → 234 ≤ length e → table ≡ sets e 0 (written row_table o)
+      → decided.Back 9 234 row_table lines_in count lines-length lines-back counted o n table
+  decided-back = decided.decided-back 9 234 row_table lines_in count lines-length lines-back counted o

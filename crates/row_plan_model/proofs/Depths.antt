@@ -17,19 +17,8 @@ use Rattle.links.specs.Link.{no_load}
 use Rattle.plan_model.proofs.TimeLaws.{timed}
 use Rattle.row_model.proofs.LoadLaws.{upward-last, upward-step, downward-first, downward-step}
 use Rattle.row_model.proofs.LoadBounds.{sensor-bounded, near-bounded, upward-bounded, upward-left-bounded, downward-bounded, downward-left-bounded}
-use Rattle.row_plan_model.proofs.Made.{fits, plus-left, plus-right}
+use Rattle.row_plan_model.proofs.Made.{fits}
 use Rattle.settings_model.specs.Checks.{radio_of}
-
--- ---- sums as they are made
-
-pub joined_made : (a x d p q r l : Load) (n : ℕ) → Bounded x → Bounded (joined a x n d)
-    → l ≡ load_up_to_64 x → p ≡ load_up_to_64 (times n l) → q ≡ load_up_to_64 (plus a p) → r ≡ load_up_to_64 (plus q d) → r ≡ joined a x n d
-joined_made a x d p q r l n small h el ep eq er =
-    let h' : Bounded (plus a (times n x)) = plus-left (plus a (times n x)) d h in
-    let l' : l ≡ x = el ∙ fits x small in
-    let p' : p ≡ times n x = ep ∙ rw l' (fits (times n x) (plus-right a (times n x) h')) in
-    let q' : q ≡ plus a (times n x) = eq ∙ rw p' (fits (plus a (times n x)) h') in
-    er ∙ rw q' (fits (joined a x n d) h)
 
 -- ---- depths
 

@@ -1,8 +1,6 @@
 -- Laws about the definitions of specs/. Assumes nothing.
 -- loads as the functions put them together
 pub mod Made
--- L of checked settings
-pub mod TimesMade
 -- tables of links by depth
 pub mod Tables
 -- from one depth to the next

@@ -1,13 +1,9 @@
 -- Lines, put one behind another. Assumes nothing.
-use mathlib.Core.Path.{◌≡◌, refl, sym, ◌∙◌}
-use mathlib.Core.List.{List, [], ◌∷◌}
-use Prim.Native.Nat.{ℕ, suc, ◌+◌, ◌-◌, ◌≤◌, ◌<◌}
+use mathlib.Core.Path.{◌≡◌, ◌∙◌}
+use Prim.Native.Nat.{ℕ, zero, suc, ◌+◌, ◌-◌, ◌≤◌, ◌<◌}
 use native.Mathlib.Numerals.{add-one}
 use native.Mathlib.Omega.{arith}
-use lib.ListN.{length}
-use lib.Seq.{sets, length-sets}
 use Rattle.measure.specs.declared.Symbols.{Symbols}
-use Rattle.measure.specs.Measures.{up_to_64}
 use Rattle.links.specs.declared.Load.{Load}
 use Rattle.links.specs.declared.Figures.{Figures}
 use Rattle.links.specs.Link.{after, reservation_of, figures_by, figures_of}
@@ -16,7 +12,6 @@ use Rattle.links.proofs.Making.{figures-fit}
 use Rattle.links.proofs.LinkLaws.{delay-bound}
 use Rattle.settings_model.specs.declared.Settings.{Settings}
 use Rattle.plan_model.specs.declared.Kind.TheVariants.{Upward, Downward}
-use Rattle.plan_model.specs.declared.Line.{Line}
 use Rattle.row_model.specs.Times.{row_timing}
 use Rattle.row_model.specs.Loads.{sensor, left, upward, downward}
 use Rattle.plan_model.specs.Lines.{line}
@@ -28,16 +23,7 @@ use Rattle.row_model.proofs.Recurrences.{sensor-some, upward-some, downward-some
 use Rattle.row_plan_model.specs.declared.Link.{Link}
 use Rattle.row_plan_model.specs.Inner.{link_of, link_up, link_down}
 use Rattle.row_plan_model.specs.Pages.{Page, pushed, filled, down_lines_from}
-use Rattle.line_table_model.specs.Rows.{numbers_of}
 use Rattle.settings_model.specs.Checks.{radio_of}
-
--- ---- one line more
-
--- a line as it is put: where it ends, its delay with the others', and the numbers
-pub pushed-made : (p : Page) (l : Line) (d : Symbols) (ns : List ℕ) → d.0 ≡ up_to_64 (p.delay.0 + l.figures.delay.0)
-    → ns ≡ sets p.numbers p.end (numbers_of l) → ◌≡◌ {A = Page} (record { end = p.end + 9; delay = d; numbers = ns }) (pushed p l)
-unfolding pushed
-pushed-made p l d ns ed en = rw (sym ed, sym en) refl
 
 -- ---- the figures of a line
 
@@ -74,17 +60,15 @@ module _ (s : Settings) (S : Sound s) where
 -- ---- the lines of the depths
 
 -- the upward line of depth i, and those of the depths above it
-pub up_step : (s : Settings) (t : Page) (n : ℕ) → n < s.h
-    → filled (pushed t (line Upward (s.h - n) (up_link s (s.h - n)))) (up_lines s (s.h - (n + 1))) ≡ filled t (up_lines s (s.h - n))
+pub up_step : (s : Settings) (t : Page) (i : ℕ) → 0 < i
+    → filled (pushed t (line Upward i (up_link s i))) (up_lines s (i - 1)) ≡ filled t (up_lines s i)
 unfolding filled up_lines
-up_step s t n h = let e : s.h - n ≡ suc (s.h - (n + 1)) = omega arith in rw e
+up_step s t zero h = absurd (omega arith)
+up_step s t (suc n) h = let e : suc n - 1 ≡ n = omega arith in rw e
 
-pub up-end : (s : Settings) (t : Page) (n : ℕ) → s.h ≤ n → filled t (up_lines s (s.h - n)) ≡ t
+pub up-end : (s : Settings) (t : Page) (i : ℕ) → i ≡ 0 → filled t (up_lines s i) ≡ t
 unfolding filled up_lines
-up-end s t n h = let e : s.h - n ≡ 0 = omega arith in rw e
-
-pub up_start : (s : Settings) (t : Page) → filled t (up_lines s (s.h - 0)) ≡ filled t (up_lines s s.h)
-up_start s t = let e : s.h - 0 ≡ s.h = omega arith in rw e
+up-end s t i e = rw e
 
 -- the downward line of depth i, and those of the depths below it
 pub down_step : (s : Settings) (t : Page) (i : ℕ) → i < s.sink
@@ -95,12 +79,3 @@ down_step s t i h = let e : s.sink - i ≡ suc (s.sink - (i + 1)) = omega arith 
 pub down-end : (s : Settings) (t : Page) (i : ℕ) → s.sink ≤ i → filled t (down_lines_from s (s.sink - i) i) ≡ t
 unfolding filled down_lines_from
 down-end s t i h = let e : s.sink - i ≡ 0 = omega arith in rw e
-
-pub down-start : (s : Settings) (t : Page) → filled t (down_lines_from s (s.sink - 0) 0) ≡ filled t (down_lines_from s s.sink 0)
-down-start s t = let e : s.sink - 0 ≡ s.sink = omega arith in rw e
-
--- lines keep the length of lent memory
-pub filled-length : (p : Page) (ls : List Line) → length (filled p ls).numbers ≡ length p.numbers
-unfolding filled pushed
-filled-length p [] = refl
-filled-length p (l ∷ ls) = filled-length (pushed p l) ls ∙ length-sets p.numbers p.end (numbers_of l)

@@ -8,7 +8,7 @@ ghost use Rattle.std.proofs.lemmas.List.Edits.{sets};
 ghost use Rattle.report_model.specs.Text.{text};
 ghost use Rattle.line_table_model.specs.Rows.{lines_in};
 
-use line_table::{line_at, lower};
+use line_table::line_at;
 use report::{put_header, put_line};
 use report_length::line_length;
 
@@ -24,12 +24,9 @@ pub fn print(table: &[u64], lines: usize, out: &mut [u8]) -> usize
     ensures upper_bound { result ≤ 4476 }
     ensures out_after { out.new ≡ sets out.old 0 (text (lines_in table.now (min lines 26))) }
 {
-    let n = lower(lines, MOST_LINES);
     let mut end = put_header(out);
-    let mut i = 0;
-    while i < n {
+    for i in 0..lines.min(MOST_LINES) {
         end += put_line(out, end, line_at(table, 9 * i));
-        i += 1;
     }
     end
 }
@@ -39,12 +36,9 @@ pub fn printed_length(table: &[u64], lines: usize) -> usize
     ensures value { result ≡ length (text (lines_in table.now (min lines 26))) }
     ensures upper_bound { result ≤ 4476 }
 {
-    let n = lower(lines, MOST_LINES);
     let mut end = HEADER;
-    let mut i = 0;
-    while i < n {
+    for i in 0..lines.min(MOST_LINES) {
         end += line_length(line_at(table, 9 * i)) + 1;
-        i += 1;
     }
     end
 }

@@ -1,93 +1,101 @@
 -- Numbers 9 and 1 of an input, and the text of a row, as code finds them. Assumes nothing.
-use mathlib.Core.Path.{◌≡◌, refl, ap, ap₂, sym, ◌∙◌}
-use mathlib.Core.Bool.{Bool, true, false}
+use Rattle.std.specs.Prelude.{Option, Some, None, Result, Ok, Err, ⊤}
+use mathlib.Core.Path.{◌≡◌, refl, ap}
 use mathlib.Core.List.{List, [], ◌∷◌, ◌++◌}
-use Prim.Native.Nat.{ℕ, ◌≤◌, ◌<◌}
+use Prim.Native.Nat.{ℕ, ◌<◌}
 use lib.ListN.{length, get_or}
-use borrow.Author.Tests.{lt-ltb, le-ltb}
-use Rattle.lines.specs.declared.Cursor.{Cursor}
-use Rattle.lines.specs.declared.Line.TheVariants.{Found, Nothing}
+use borrow.Author.Tests.{lt-ltb}
+use Rattle.lines.specs.declared.Line as lines
 use Rattle.decimal_model.specs.Ascii.{ascii}
 use Rattle.lines.specs.Text.{same, joined, ended, line_at, part_of}
 use Rattle.lines.proofs.LawsHold.{found-advances, nothing-is-left}
 use Rattle.refusals.specs.declared.Refusal.{Refusal}
-use Rattle.refusals.specs.declared.Refusal.TheVariants.{Names, InputTooLong}
-use Rattle.refusals.specs.declared.Verdict.TheVariants.{Kept, Broken}
-use Rattle.refusals.specs.Conditions.{condition, first_broken}
-use Rattle.refusals.proofs.Answering.{verdict, answer-broken, answer-kept}
+use Rattle.refusals.specs.declared.Refusal.TheVariants.{InputTooLong}
+use Rattle.refusals.specs.Conditions.{Condition, first_broken, verdict}
+use Rattle.refusals.proofs.Answering.{answer-broken, answer-kept}
 use Rattle.settings_model.specs.Columns.{twelve, every_column}
 use Rattle.row_read_model.specs.declared.Heading.{Heading}
 use Rattle.row_read_model.specs.declared.Heading.TheVariants.{Other}
-use Rattle.row_read_model.specs.Names.{name_line, heading_of, is_other}
+use Rattle.row_read_model.specs.Names.{name_line, heading_of}
 use Rattle.row_read_model.specs.Rows.{headed}
 use Rattle.refusals.specs.Outcome.{Planned, Refused}
 use Rattle.row_model.specs.Outcome.{RowOutcome}
 use Rattle.plan_model.specs.declared.Line.{Line}
-use Rattle.plan_model.specs.Plans.{planned, refused, answer}
+use Rattle.plan_model.specs.Plans.{answer}
 use Rattle.reason_model.specs.Reasons.{verdict_line}
 use Rattle.row_program_model.specs.declared.Style.{Style}
 use Rattle.row_program_model.specs.declared.Style.TheVariants.{Reasons}
 use Rattle.row_program_model.specs.Output.{printed, refusal_printed, heading_in, input_conditions}
 use Rattle.program_model.specs.Printed.{too_long}
-use Rattle.row_program_model.specs.Steps.{rows_from, Step, behind, opening}
+use Rattle.row_program_model.specs.declared.Progress.TheVariants.{Rows}
+use Rattle.row_program_model.specs.Steps.{Step, behind, opening}
 
--- a first step that prints these bytes, with the rows from there on
-abbrev opened : Heading → List ℕ → ℕ → Step
-opened h b n = record { bytes = b; next = rows_from h n; more = true }
+-- ---- the first line
 
 module _ (input : List ℕ) where
-  -- there is no line
-  pub no_names : line_at input 0 ≡ Nothing → Other ≡ heading_in input
+  -- there is none
+  pub no_names : line_at input 0 ≡ None → heading_in input ≡ Other
   unfolding heading_in heading_of same name_line joined twelve every_column ascii
-  no_names e = sym (ap (λ (ls : List (List ℕ)). heading_of (get_or ls 0 [])) (nothing-is-left input 0 e))
+  no_names e = ap (λ (ls : List (List ℕ)). heading_of (get_or ls 0 [])) (nothing-is-left input 0 e)
 
-  -- the first line
-  pub first-names : (from end : ℕ) (next : Cursor) → line_at input 0 ≡ Found from end next → heading_of (part_of input from end) ≡ heading_in input
+  pub first-names : (l : lines.Line) → line_at input 0 ≡ Some l → heading_in input ≡ heading_of (part_of input l.start l.end)
   unfolding heading_in
-  first-names from end next e = sym (ap (λ (ls : List (List ℕ)). heading_of (get_or ls 0 [])) (found-advances input 0 from end next e).first)
+  first-names l e = ap (λ (ls : List (List ℕ)). heading_of (get_or ls 0 [])) (found-advances input 0 l.start l.end l.next e).first
 
-  -- number 9
-  pub too_long_lem : (heading : Heading) → 65536 < length input → Broken InputTooLong ≡ verdict (too_long input ++ headed heading)
-  unfolding first_broken too_long
-  too_long_lem heading h = sym (ap (λ (b : Bool). verdict (condition b InputTooLong ∷ headed heading)) (lt-ltb 65536 (length input) h))
+-- which line of names a first line is, where there is one
+abbrev pub heading_at : List ℕ → Option lines.Line → Heading
+heading_at input (Some l) = heading_of (part_of input l.start l.end)
+heading_at input None = Other
 
-  -- number 1
-  module _ (heading : Heading) (h : length input ≤ 65536) where
-    by_names : verdict (too_long input ++ headed heading) ≡ verdict (headed heading)
-    unfolding first_broken too_long
-    by_names = ap (λ (b : Bool). verdict (condition b InputTooLong ∷ headed heading)) (le-ltb 65536 (length input) h)
+pub heading_found : (input : List ℕ) → heading_in input ≡ heading_at input (line_at input 0)
+heading_found input = by (line_at input 0) refl
+  where
+    by : (l : Option lines.Line) → line_at input 0 ≡ l → heading_in input ≡ heading_at input l
+    by (Some l) e = first-names input l e
+    by None e = no_names input e
 
-    pub right-names : is_other heading ≡ false → Kept ≡ verdict (too_long input ++ headed heading)
-    unfolding first_broken headed
-    right-names n = sym (by_names ∙ rw n)
+-- ---- numbers 9 and 1, and the first step
 
-    pub other-names : is_other heading ≡ true → Broken Names ≡ verdict (too_long input ++ headed heading)
-    unfolding first_broken headed
-    other-names n = sym (by_names ∙ rw n)
+-- number 9, whatever the names are
+pub too_long_lem : (input : List ℕ) (heading : Heading) → 65536 < length input → verdict (too_long input ++ headed heading) ≡ Err InputTooLong
+unfolding first_broken too_long
+too_long_lem input heading h = rw (lt-ltb 65536 (length input) h)
 
-module _ (s : Style) (input : List ℕ) (heading : Heading) (e : heading ≡ heading_in input) where
-  -- the first step
-  pub opening-refused : (r : Refusal) → verdict (too_long input ++ headed heading) ≡ Broken r
-      → opening s input ≡ record { bytes = refusal_printed s r; next = rows_from heading (length input); more = true }
+module _ (s : Style) (input : List ℕ) where
+  abbrev conditions : List (Condition Refusal)
+  conditions = too_long input ++ headed (heading_in input)
+
+  pub opening-refused : (r : Refusal) → verdict conditions ≡ Err r
+      → opening s input ≡ record { bytes = refusal_printed s r; next = Rows (heading_in input) (length input) }
   unfolding opening input_conditions
-  opening-refused r v =
-      let w = rw e at v in
-      rw e (ap₂ (opened (heading_in input)) (answer-broken (refusal_printed s) _ (input_conditions input) r w) (answer-broken (λ x. length input) _ (input_conditions input) r w))
+  opening-refused r v = rw (answer-broken (refusal_printed s) [] conditions r v, answer-broken (λ x. length input) (behind (line_at input 0)) conditions r v)
 
-  pub opening-named : verdict (too_long input ++ headed heading) ≡ Kept
-      → opening s input ≡ record { bytes = []; next = rows_from heading (behind (line_at input 0)); more = true }
+  pub opening-named : verdict conditions ≡ Ok tt
+      → opening s input ≡ record { bytes = []; next = Rows (heading_in input) (behind (line_at input 0)) }
   unfolding opening input_conditions
-  opening-named v =
-      let w = rw e at v in
-      rw e (ap₂ (opened (heading_in input)) (answer-kept _ [] (input_conditions input) w) (answer-kept _ (behind (line_at input 0)) (input_conditions input) w))
+  opening-named v = rw (answer-kept (refusal_printed s) [] conditions v, answer-kept (λ x. length input) (behind (line_at input 0)) conditions v)
 
--- a row's line, by its verdict, whatever its plan is put as
-pub spoken-verdict : (put : List Line → List ℕ) (o : RowOutcome) → ended (verdict_line (answer put o).verdict ∷ []) ≡ printed Reasons o
-unfolding printed answer planned refused
-spoken-verdict put (Planned p) = refl
-spoken-verdict put (Refused r) = refl
+-- the first step, by the verdict on the input
+abbrev pub opened : Style → List ℕ → Result ⊤ Refusal → Step
+opened s input (Ok t) = record { bytes = []; next = Rows (heading_in input) (behind (line_at input 0)) }
+opened s input (Err r) = record { bytes = refusal_printed s r; next = Rows (heading_in input) (length input) }
+
+pub opening_found : (s : Style) (input : List ℕ) → opening s input ≡ opened s input (verdict (too_long input ++ headed (heading_in input)))
+opening_found s input = by (verdict (too_long input ++ headed (heading_in input))) refl
+  where
+    by : (v : Result ⊤ Refusal) → verdict (too_long input ++ headed (heading_in input)) ≡ v → opening s input ≡ opened s input v
+    by (Ok t) e = opening-named s input e
+    by (Err r) e = opening-refused s input r e
+
+-- ---- what is printed for a row
+
+-- its line, by what is answered, whatever its plan is put as
+pub spoken_answer : (put : List Line → List ℕ) (o : RowOutcome) → ended (verdict_line (answer put o) ∷ []) ≡ printed Reasons o
+unfolding printed answer verdict_line
+spoken_answer put (Planned p) = refl
+spoken_answer put (Refused r) = refl
 
 -- a text and its LF
-pub ended-one : (t : List ℕ) → ended (t ∷ []) ≡ t ++ 10 ∷ []
+pub ended_one : (t : List ℕ) → ended (t ∷ []) ≡ t ++ 10 ∷ []
 unfolding ended
-ended-one t = refl
+ended_one t = refl

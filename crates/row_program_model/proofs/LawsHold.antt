@@ -1,43 +1,43 @@
 -- The laws of specs/Laws. Assumes nothing.
+use Rattle.std.specs.Prelude.{Option, Some, None, Result, Ok, Err, ⊤}
+use Rattle.refusals.specs.declared.Refusal.{Refusal}
 use mathlib.Core.Path.{◌≡◌, refl, ap, sym, ◌∙◌}
-use mathlib.Core.Bool.{Bool, true, false, cond, false≢true}
 use mathlib.Core.List.{List, [], ◌∷◌, ◌++◌, append-nil, append_assoc}
 use Prim.Native.Nat.{ℕ, zero, suc, ◌<◌}
 use native.Mathlib.Omega.{arith}
-use borrow.Author.Tests.{lt-ltb, le-ltb}
-use lib.ListN.{length, drop}
+use borrow.Author.Tests.{le-ltb}
+use lib.ListN.{length, drop, length-append}
 use Rattle.lines.specs.declared.Line.{Line}
-use Rattle.lines.specs.declared.Line.TheVariants.{Found, Nothing}
 use Rattle.lines.specs.Text.{joined, lines, ended, line_at}
 use Rattle.lines.proofs.Cutting.{lines-past}
 use Rattle.lines.proofs.LawsHold.{found-advances, nothing-is-left}
 use Rattle.refusals.specs.declared.Refusal.TheVariants.{InputTooLong}
-use Rattle.refusals.specs.declared.Verdict.{Verdict}
-use Rattle.refusals.specs.declared.Verdict.TheVariants.{Kept, Broken}
-use Rattle.refusals.proofs.Answering.{verdict, answer-broken, answer-kept}
-use Rattle.refusals.specs.Conditions.{first_broken}
+use Rattle.refusals.proofs.Answering.{answer-broken, answer-kept}
+use Rattle.refusals.specs.Conditions.{first_broken, verdict}
 use Rattle.report_model.specs.Text.{text, refusal_text}
 use Rattle.plan_model.specs.Plans.{answer}
 use Rattle.program_model.specs.Printed as program
 use Rattle.row_read_model.specs.declared.Heading.{Heading}
+use Rattle.row_read_model.specs.Rows.{headed}
 use Rattle.row_answer_model.specs.Outcomes.{row_outcome}
 use Rattle.reason_model.specs.Reasons.{verdict_line}
 use Rattle.reason_model.proofs.Computing.{worded}
 use Rattle.row_program_model.specs.declared.Style.{Style}
 use Rattle.row_program_model.specs.declared.Style.TheVariants.{Plans, Reasons}
-use Rattle.row_program_model.proofs.Inputs.{spoken-verdict}
+use Rattle.row_program_model.proofs.Inputs.{too_long_lem, opened, opening_found, spoken_answer}
 use Rattle.row_program_model.specs.declared.Progress.{Progress}
+use Rattle.row_program_model.specs.declared.Progress.TheVariants.{Start, Rows}
 use Rattle.row_program_model.specs.declared.Piece.{Piece}
 use Rattle.row_program_model.specs.Output.{printed, refusal_printed, rows_printed, heading_in, input_conditions, output}
 use Rattle.program_model.specs.Printed.{too_long}
-use Rattle.row_program_model.specs.Steps.{start, rows_from, Step, behind, opening, row_at, step, piece, printed_from}
+use Rattle.row_program_model.specs.Steps.{Step, behind, opening, row_at, step, put, piece, followed, printed_from}
 use Rattle.row_program_model.specs.Laws.{LongInputs, OtherInputs, OneLineForRow, to_go, StepsEnd, StepsPrintAll}
 
 -- ---- the length of an input
 
 long-printed : (s : Style) (input : List ℕ) → 65536 < length input → output s input ≡ refusal_printed s InputTooLong
-unfolding output input_conditions too_long first_broken
-long-printed s input h = rw (lt-ltb 65536 (length input) h)
+unfolding output input_conditions
+long-printed s input h = answer-broken (refusal_printed s) _ (too_long input ++ headed (heading_in input)) InputTooLong (too_long_lem input (heading_in input) h)
 
 pub long-inputs : LongInputs
 unfolding program.printed printed worded ended joined refusal_text
@@ -47,101 +47,119 @@ pub other-inputs : OtherInputs
 unfolding output input_conditions too_long first_broken
 other-inputs s input h = rw (le-ltb 65536 (length input) h)
 
+-- what stands behind 65,537 bytes decides nothing
+pub long-front : (s : Style) (front rest : List ℕ) → 65536 < length front → output s (front ++ rest) ≡ output s front
+long-front s front rest h =
+    long-printed s (front ++ rest) (omega (arith, length-append front rest)) ∙ sym (long-printed s front h)
+
 -- ---- the steps
 
 -- what is still to be printed
-unfoldable remaining : Style → List ℕ → Progress → List ℕ
-remaining s input p = cond p.begun (rows_printed s p.heading (lines (drop p.at input))) (output s input)
+unfoldable pub remaining : Style → List ℕ → Progress → List ℕ
+remaining s input Start = output s input
+remaining s input (Rows h at) = rows_printed s h (lines (drop at input))
 
--- a step prints the front of what remains, and brings the end nearer; where there is none nothing remains
-record Taken (style : Style) (input : List ℕ) (p : Progress) (s : Step) : Type 0 where
-  prints : s.more ≡ true → remaining style input p ≡ s.bytes ++ remaining style input s.next
-  nearer : s.more ≡ true → to_go input s.next < to_go input p
-  ended : s.more ≡ false → remaining style input p ≡ []
+-- a step prints the front of what remains, and brings the end nearer
+record Ahead (s : Style) (input : List ℕ) (p : Progress) (t : Step) : Type 0 where
+  prints : remaining s input p ≡ t.bytes ++ remaining s input t.next
+  nearer : to_go input t.next < to_go input p
+
+-- and where there is none nothing remains
+abbrev Taken : Style → List ℕ → Progress → Option Step → Type 0
+Taken s input p (Some t) = Ahead s input p t
+Taken s input p None = remaining s input p ≡ []
 
 -- a row's step, by the line at its position
-row-taken : (s : Style) (h : Heading) (input : List ℕ) (at : ℕ) (l : Line) → line_at input at ≡ l → Taken s input (rows_from h at) (row_at s h input at l)
+row-taken : (s : Style) (h : Heading) (input : List ℕ) (at : ℕ) (l : Option Line) → line_at input at ≡ l → Taken s input (Rows h at) (row_at s h input l)
 unfolding row_at remaining to_go rows_printed
-row-taken s h input at (Found from end next) e =
-    let a = found-advances input at from end next e in
-    record {
-      prints = λ m. ap (rows_printed s h) a.first;
-      nearer = λ m. omega (arith, a.forward, a.next_within);
-      ended = λ m. absurd (false≢true (sym m));
-    }
-row-taken s h input at Nothing e = record {
-  prints = λ m. absurd (false≢true m);
-  nearer = λ m. absurd (false≢true m);
-  ended = λ m. rw (nothing-is-left input at e);
-}
+row-taken s h input at (Some l) e =
+    let a = found-advances input at l.start l.end l.next e in
+    record { prints = ap (rows_printed s h) a.first; nearer = omega (arith, a.forward, a.next_within) }
+row-taken s h input at None e = rw (nothing-is-left input at e)
 
 -- behind the first line stand the rows
-behind-names : (input : List ℕ) (l : Line) → line_at input 0 ≡ l → drop 1 (lines input) ≡ lines (drop (behind l) input)
+behind-names : (input : List ℕ) (l : Option Line) → line_at input 0 ≡ l → drop 1 (lines input) ≡ lines (drop (behind l) input)
 unfolding behind
-behind-names input (Found from end next) e = ap (λ (ls : List (List ℕ)). drop 1 ls) (found-advances input 0 from end next e).first
-behind-names input Nothing e = rw (nothing-is-left input 0 e)
+behind-names input (Some l) e = ap (λ (ls : List (List ℕ)). drop 1 ls) (found-advances input 0 l.start l.end l.next e).first
+behind-names input None e = rw (nothing-is-left input 0 e)
 
--- the first step, by whether the input is refused
-opening-prints : (s : Style) (input : List ℕ) (v : Verdict) → verdict (input_conditions input) ≡ v
-    → output s input ≡ (opening s input).bytes ++ remaining s input (opening s input).next
-unfolding opening remaining rows_printed output
-opening-prints s input (Broken r) e = rw (
-  answer-broken (refusal_printed s) (rows_printed s (heading_in input) (drop 1 (lines input))) (input_conditions input) r e,
-  answer-broken (refusal_printed s) [] (input_conditions input) r e,
-  answer-broken (λ q. length input) (behind (line_at input 0)) (input_conditions input) r e,
+-- the first step, by the verdict on the input
+opening-prints : (s : Style) (input : List ℕ) (v : Result ⊤ Refusal) → verdict (too_long input ++ headed (heading_in input)) ≡ v
+    → output s input ≡ (opened s input v).bytes ++ remaining s input (opened s input v).next
+unfolding remaining rows_printed output input_conditions
+opening-prints s input (Err r) e = rw (
+  answer-broken (refusal_printed s) (rows_printed s (heading_in input) (drop 1 (lines input))) (too_long input ++ headed (heading_in input)) r e,
   lines-past input (length input) (omega arith),
   append-nil (refusal_printed s r),
 )
-opening-prints s input Kept e = rw (
-  answer-kept (refusal_printed s) (rows_printed s (heading_in input) (drop 1 (lines input))) (input_conditions input) e,
-  answer-kept (refusal_printed s) [] (input_conditions input) e,
-  answer-kept (λ q. length input) (behind (line_at input 0)) (input_conditions input) e,
+opening-prints s input (Ok t) e = rw (
+  answer-kept (refusal_printed s) (rows_printed s (heading_in input) (drop 1 (lines input))) (too_long input ++ headed (heading_in input)) e,
   behind-names input (line_at input 0) refl,
 )
 
-opening-taken : (s : Style) (h : Heading) (input : List ℕ) (at : ℕ) → Taken s input (record { at = at; heading = h; begun = false }) (opening s input)
+opening-front : (s : Style) (input : List ℕ) → output s input ≡ (opening s input).bytes ++ remaining s input (opening s input).next
+opening-front s input = rw (opening_found s input) (opening-prints s input (verdict (too_long input ++ headed (heading_in input))) refl)
+
+opening-taken : (s : Style) (input : List ℕ) → Taken s input Start (Some (opening s input))
 unfolding opening remaining to_go
-opening-taken s h input at = record {
-  prints = λ m. opening-prints s input (verdict (input_conditions input)) refl;
-  nearer = λ m. omega arith;
-  ended = λ m. absurd (false≢true (sym m));
-}
+opening-taken s input = record { prints = opening-front s input; nearer = omega arith }
 
 -- every step
 step-taken : (s : Style) (input : List ℕ) (p : Progress) → Taken s input p (step s input p)
 unfolding step
-step-taken s input p = by p.begun
-  where
-    by : (b : Bool)
-        → Taken s input (record { at = p.at; heading = p.heading; begun = b }) (cond b (row_at s p.heading input p.at (line_at input p.at)) (opening s input))
-    by true = row-taken s p.heading input p.at (line_at input p.at) refl
-    by false = opening-taken s p.heading input p.at
+step-taken s input Start = opening-taken s input
+step-taken s input (Rows h at) = row-taken s h input at (line_at input at) refl
 
 pub steps-end : StepsEnd
-steps-end s input p = (step-taken s input p).nearer
+steps-end s input p t e = let f : Taken s input p (Some t) = rw e at (step-taken s input p) in f.nearer
 
 -- as many steps as are left, and one that finds nothing, print what remains
 prints-remaining : (s : Style) (input : List ℕ) (n : ℕ) (p : Progress) → to_go input p < n → printed_from s n input p ≡ remaining s input p
-unfolding printed_from
+unfolding printed_from followed
 prints-remaining s input zero p h = absurd (omega arith)
-prints-remaining s input (suc n) p h = by (step s input p).more refl (prints-remaining s input n (step s input p).next)
+prints-remaining s input (suc n) p h = by (step s input p) (step-taken s input p) (prints-remaining s input n)
   where
-    by : (b : Bool) → (step s input p).more ≡ b
-        → (to_go input (step s input p).next < n → printed_from s n input (step s input p).next ≡ remaining s input (step s input p).next)
-        → cond b ((step s input p).bytes ++ printed_from s n input (step s input p).next) [] ≡ remaining s input p
-    by true e f = let t = step-taken s input p in rw (f (omega (arith, t.nearer e)), t.prints e)
-    by false e f = rw ((step-taken s input p).ended e)
+    by : (t : Option Step) → Taken s input p t → ((q : Progress) → to_go input q < n → printed_from s n input q ≡ remaining s input q)
+        → followed t (λ q. printed_from s n input q) ≡ remaining s input p
+    by (Some t) f later = rw (later t.next (omega (arith, f.nearer)), f.prints)
+    by None f later = sym f
 
 pub steps-print-all : StepsPrintAll
-unfolding remaining start
-steps-print-all s input n h = prints-remaining s input n start h
+unfolding remaining
+steps-print-all s input n h = prints-remaining s input n Start h
 
--- the same of a step's answer
-pub piece-nearer : (s : Style) (input : List ℕ) (p : Progress) (r : Piece) → r ≡ piece (step s input p) → r.more ≡ true → to_go input r.next < to_go input p
+-- nothing is printed yet: all of the output remains
+pub remaining-start : (s : Style) (input : List ℕ) → remaining s input Start ≡ output s input
+unfolding remaining
+remaining-start s input = refl
+
+-- the same of a step's answer: it tells the length of what is printed, which is the front of what remains, and brings the end nearer
+pub record Answered (s : Style) (input : List ℕ) (p : Progress) (r : Piece) : Type 0 where
+  pub counted : r.length ≡ length (put (step s input p))
+  pub prints : remaining s input p ≡ put (step s input p) ++ remaining s input r.next
+  pub nearer : to_go input r.next < to_go input p
+
+pub piece-answered : (s : Style) (input : List ℕ) (p : Progress) (r : Piece) → Some r ≡ piece (step s input p) → Answered s input p r
+unfolding put piece
+piece-answered s input p r e =
+    let w = by (step s input p) (step-taken s input p) e in
+    record { counted = w.0; prints = w.1; nearer = w.2 }
+  where
+    by : (o : Option Step) → Taken s input p o → Some r ≡ piece o
+        → (r.length ≡ length (put o)) × (remaining s input p ≡ put o ++ remaining s input r.next) × (to_go input r.next < to_go input p)
+    by (Some t) f w =
+        let q : r ≡ record { length = length t.bytes; next = t.next } = cc in
+        rw q (refl, f.prints, f.nearer)
+    by None f w = cc
+
+-- where none is answered nothing remains
+pub no-piece : (s : Style) (input : List ℕ) (p : Progress) → None ≡ piece (step s input p) → remaining s input p ≡ []
 unfolding piece
-piece-nearer s input p r e m =
-    let n : r.next ≡ (step s input p).next = ap (λ (x : Piece). x.next) e in
-    rw n (steps-end s input p (sym (ap (λ (x : Piece). x.more) e) ∙ m))
+no-piece s input p e = by (step s input p) (step-taken s input p) e
+  where
+    by : (o : Option Step) → Taken s input p o → None ≡ piece o → remaining s input p ≡ []
+    by (Some t) f w = cc
+    by None f w = f
 
 -- ---- reasons are one line for each row
 
@@ -149,5 +167,5 @@ pub one-line-for-row : OneLineForRow
 unfolding rows_printed ended
 one-line-for-row h [] = refl
 one-line-for-row h (r ∷ rs) =
-    let t : List ℕ = verdict_line (answer text (row_outcome h r)).verdict in
-    rw (sym (spoken-verdict text (row_outcome h r)), one-line-for-row h rs) (append_assoc t (10 ∷ []) _)
+    let t : List ℕ = verdict_line (answer text (row_outcome h r)) in
+    rw (sym (spoken_answer text (row_outcome h r)), one-line-for-row h rs) (append_assoc t (10 ∷ []) _)

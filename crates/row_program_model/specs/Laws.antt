@@ -1,5 +1,5 @@
 -- What holds of an input's output and of its steps, for a program that takes them. Assumes nothing: these are statements; proofs/LawsHold and WithoutLoss prove them.
-use Rattle.std.specs.Prelude.{ℕ, suc, ◌-◌, ◌≤◌, ◌<◌, ◌≡◌, Bool, true, cond, ◌&&◌, List, [], ◌∷◌, map, eqb, length, drop}
+use Rattle.std.specs.Prelude.{ℕ, suc, ◌-◌, ◌≤◌, ◌<◌, ◌≡◌, Bool, true, ◌&&◌, List, [], ◌∷◌, map, eqb, length, drop, Some}
 use Rattle.decimal_model.specs.Ascii.{ascii}
 use Rattle.lines.specs.Text.{fields, lines, ended}
 use Rattle.lines.specs.Laws.{all_lack}
@@ -17,8 +17,9 @@ use Rattle.reason_model.specs.Reasons.{verdict_line}
 use Rattle.row_program_model.specs.declared.Style.{Style}
 use Rattle.row_program_model.specs.declared.Style.TheVariants.{Plans, Reasons}
 use Rattle.row_program_model.specs.declared.Progress.{Progress}
+use Rattle.row_program_model.specs.declared.Progress.TheVariants.{Start, Rows}
 use Rattle.row_program_model.specs.Output.{refusal_printed, rows_printed, heading_in, output}
-use Rattle.row_program_model.specs.Steps.{start, step, printed_from}
+use Rattle.row_program_model.specs.Steps.{Step, step, printed_from}
 
 -- over 65,536 bytes one line is all, whatever they are
 abbrev pub LongInputs : Type 0
@@ -35,7 +36,7 @@ OtherInputs =
 -- reasons are one line for each row, in the rows' order: that it is planned, or why it is refused
 abbrev pub OneLineForRow : Type 0
 OneLineForRow = (heading : Heading) (rows : List (List ℕ))
-    → rows_printed Reasons heading rows ≡ ended (map (λ (r : List ℕ). verdict_line (answer text (row_outcome heading r)).verdict) rows)
+    → rows_printed Reasons heading rows ≡ ended (map (λ (r : List ℕ). verdict_line (answer text (row_outcome heading r))) rows)
 
 -- rows of twelve values each
 unfoldable pub all_twelve : List (List ℕ) → Bool
@@ -52,12 +53,13 @@ pub record SameWithoutLoss : Type 0 where
 
 -- what is left: the bytes behind a position, and one step before the first row
 unfoldable pub to_go : List ℕ → Progress → ℕ
-to_go input p = cond p.begun (length input - p.at) (suc (length input))
+to_go input Start = suc (length input)
+to_go input (Rows heading at) = length input - at
 
 -- the steps end
 abbrev pub StepsEnd : Type 0
-StepsEnd = (s : Style) (input : List ℕ) (p : Progress) → (step s input p).more ≡ true → to_go input (step s input p).next < to_go input p
+StepsEnd = (s : Style) (input : List ℕ) (p : Progress) (t : Step) → step s input p ≡ Some t → to_go input t.next < to_go input p
 
 -- the pieces of all steps, one behind another, are the output
 abbrev pub StepsPrintAll : Type 0
-StepsPrintAll = (s : Style) (input : List ℕ) (n : ℕ) → to_go input start < n → printed_from s n input start ≡ output s input
+StepsPrintAll = (s : Style) (input : List ℕ) (n : ℕ) → to_go input Start < n → printed_from s n input Start ≡ output s input

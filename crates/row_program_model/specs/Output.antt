@@ -1,8 +1,7 @@
 -- What is printed for a whole input (document 01, 'The printed plan' and 'Rows of settings'). Assumes nothing: these are definitions.
-use Rattle.std.specs.Prelude.{ℕ, List, [], ◌∷◌, ◌++◌, get_or, drop}
+use Rattle.std.specs.Prelude.{ℕ, List, [], ◌∷◌, ◌++◌, length, get_or, drop, Ok, Err}
 use Rattle.lines.specs.Text.{lines, ended}
 use Rattle.refusals.specs.declared.Refusal.{Refusal}
-use Rattle.refusals.specs.declared.Verdict.TheVariants.{Kept, Broken}
 use Rattle.refusals.specs.Conditions.{Condition, first_broken}
 use Rattle.row_read_model.specs.declared.Heading.{Heading}
 use Rattle.row_read_model.specs.Names.{heading_of}
@@ -21,8 +20,8 @@ use Rattle.row_program_model.specs.declared.Style.TheVariants.{Plans, Reasons}
 -- of English, that it is planned or why it is refused.
 unfoldable pub printed : Style → RowOutcome → List ℕ
 printed Plans o = program.printed text o
-printed Reasons (Planned p) = ended (verdict_line Kept ∷ [])
-printed Reasons (Refused r) = ended (verdict_line (Broken r) ∷ [])
+printed Reasons (Planned p) = ended (verdict_line (Ok (length (text p))) ∷ [])
+printed Reasons (Refused r) = ended (verdict_line (Err r) ∷ [])
 
 -- and for a refusal
 abbrev pub refusal_printed : Style → Refusal → List ℕ

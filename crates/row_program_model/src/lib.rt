@@ -11,18 +11,18 @@ pub enum Style {
     Reasons,
 }
 
-// How far an input was printed: nothing yet, or all before the row that starts at `at`, under that line of names.
+// How far an input was printed.
 #[derive(Clone, Copy)]
-pub struct Progress {
-    pub at: usize,
-    pub heading: Heading,
-    pub begun: bool,
+pub enum Progress {
+    // Nothing yet.
+    Start,
+    // All before the row that starts at `at`, under that line of names.
+    Rows { heading: Heading, at: usize },
 }
 
-// The next piece: its length, how it goes on behind it, and whether there was one.
+// The next piece: its length, and how it goes on behind it.
 #[derive(Clone, Copy)]
 pub struct Piece {
     pub length: usize,
     pub next: Progress,
-    pub more: bool,
 }

@@ -10,8 +10,8 @@ ghost use Rattle.row_read_model.specs.Names.{heading_of, is_other};
 ghost use Rattle.row_read_model.specs.Rows.{settings_of, row_under, named_row};
 
 use crate::values::read_values;
-use refusals::{Refusal, Verdict};
-use row_read_model::{Heading, Row};
+use refusals::Refusal;
+use row_read_model::Heading;
 use settings_model::Settings;
 
 mod values; // the values of a row: number 2
@@ -36,31 +36,21 @@ pub fn heading_of(names: &[u8]) -> Heading
 pub fn is_other(heading: Heading) -> bool
     ensures { result ≡ is_other heading }
 {
-    match heading {
-        Heading::Twelve => false,
-        Heading::Thirteen => false,
-        Heading::Other => true,
-    }
+    matches!(heading, Heading::Other)
 }
 
 // A row from its bytes, without its LF, under a line of names: refusals 1 and 2. An LF in it is a byte like any other.
-pub fn read_row(heading: Heading, row: &[u8]) -> Row
+pub fn read_row(heading: Heading, row: &[u8]) -> Result<Settings, Refusal>
     ensures { result ≡ row_under heading row.now }
 {
     if is_other(heading) {
-        return Row::Refused(Refusal::Names);
+        return Err(Refusal::Names);
     }
-    let read = read_values(heading, row);
-    let verdict = read.verdict;
-    if let Verdict::Broken(refusal) = verdict {
-        return Row::Refused(refusal);
-    }
-    let numbers = read.numbers;
-    Row::Read(settings_of(numbers))
+    Ok(settings_of(read_values(heading, row)?))
 }
 
 // A row and its line of names, both as bytes without their LF: refusals 1 and 2.
-pub fn read_named_row(names: &[u8], row: &[u8]) -> Row
+pub fn read_named_row(names: &[u8], row: &[u8]) -> Result<Settings, Refusal>
     ensures { result ≡ named_row names.now row.now }
 {
     read_row(heading_of(names), row)

@@ -1,55 +1,35 @@
 // The values of a row: number 2 of document 01's table, and of document 02's E5.
-ghost use Rattle.std.specs.Prelude.{◌≡◌, ◌+◌, ◌≤◌, ◌<◌, length};
+ghost use Rattle.std.specs.Prelude.{◌≡◌, ◌+◌, ◌≤◌, ◌<◌, length, IfOk};
 ghost use Rattle.lines.specs.Text.{fields};
-ghost use Rattle.refusals.specs.declared.Verdict.TheVariants.{Kept, Broken};
-ghost use Rattle.refusals.specs.declared.Refusal.TheVariants.{Unreadable, TextAfter};
-ghost use Rattle.refusals.specs.Conditions.{first_broken};
+ghost use Rattle.refusals.specs.Conditions.{verdict, verdict_of};
 ghost use Rattle.row_read_model.specs.Names.{columns_under};
 ghost use Rattle.row_read_model.specs.Rows.{columns_read, values_in, settings_of};
 
-use decimal_model::Number;
-use refusals::{Refusal, Verdict};
+use refusals::Refusal;
 use row_read_model::Heading;
 
 const SPACE: u8 = 32;
 
-// The values of a row, LOSS 0 where the names have none, and whether each can be read and nothing follows them.
-#[derive(Clone, Copy)]
-pub struct Values {
-    pub numbers: [u64; 13],
-    pub verdict: Verdict,
-}
-
-// The values of a row under a line of names. A value is the run of bytes between single spaces.
-pub(crate) fn read_values(heading: Heading, row: &[u8]) -> Values
-    ensures verdict_value { result.verdict ≡ first_broken Broken Kept (columns_read 1 (columns_under heading) (fields row.now)) }
-    ensures numbers_value { result.verdict ≡ Kept → settings_of result.numbers ≡ settings_of (values_in row.now) }
+// The values of a row under a line of names, LOSS 0 where the names have none: each can be read, and nothing follows them. A value is the run
+// of bytes between single spaces.
+pub(crate) fn read_values(heading: Heading, row: &[u8]) -> Result<[u64; 13], Refusal>
+    ensures verdict_value { verdict_of result ≡ verdict (columns_read 1 (columns_under heading) (fields row.now)) }
+    ensures numbers_value { IfOk result (λ numbers. settings_of numbers ≡ settings_of (values_in row.now)) }
 {
     let columns = column_count(heading);
     let mut numbers = [0u64; 13];
-    // Where the next value starts. A value that ends with the row leaves it one past the row's end: there is no next one.
-    let mut at = 0;
-    let mut k = 0;
-    while k < columns {
-        if row.len() < at {
-            return unreadable(numbers, k);
-        }
-        let end = octets::find(row, at, SPACE);
-        let number = decimal::read_number(&row[at..end]);
-        let Number::Value(v) = number else {
-            return unreadable(numbers, k);
-        };
-        numbers[k] = v;
-        at = end + 1;
-        k += 1;
+    let mut values = row.split(|byte| *byte == SPACE);
+    for k in 0..columns {
+        let column = k as u32 + 1;
+        let value = values.next().and_then(decimal::read_number);
+        numbers[k] = value.ok_or(Refusal::Unreadable { column })?;
     }
-    if at <= row.len() {
-        return text_after(numbers, columns);
+    if values.next().is_some() {
+        return Err(Refusal::TextAfter {
+            column: columns as u32 + 1,
+        });
     }
-    Values {
-        numbers,
-        verdict: Verdict::Kept,
-    }
+    Ok(numbers)
 }
 
 // How many columns a line of names names.
@@ -61,31 +41,5 @@ fn column_count(heading: Heading) -> usize
         Heading::Twelve => 12,
         Heading::Thirteen => 13,
         Heading::Other => 0,
-    }
-}
-
-// The answer where the value behind the first k cannot be read.
-fn unreadable(numbers: [u64; 13], k: usize) -> Values
-    requires { k ≤ 13 }
-    ensures { result.verdict ≡ Broken (Unreadable (k + 1)) }
-{
-    Values {
-        numbers,
-        verdict: Verdict::Broken(Refusal::Unreadable {
-            column: (k + 1) as u32,
-        }),
-    }
-}
-
-// The answer where text follows the last value of that many columns.
-fn text_after(numbers: [u64; 13], columns: usize) -> Values
-    requires { columns ≤ 13 }
-    ensures { result.verdict ≡ Broken (TextAfter (columns + 1)) }
-{
-    Values {
-        numbers,
-        verdict: Verdict::Broken(Refusal::TextAfter {
-            column: (columns + 1) as u32,
-        }),
     }
 }

@@ -1,20 +1,16 @@
 -- The laws of specs/Laws. Assumes nothing.
+use Rattle.std.specs.Prelude.{Ok, Err}
 use mathlib.Core.Path.{◌≡◌, ap, sym, ◌∙◌}
-use mathlib.Core.Bool.{Bool, true, false, false≢true}
 use mathlib.Core.List.{List}
 use Prim.Native.Nat.{ℕ}
 use lib.ListN.{length, take}
 use Rattle.lines.specs.Text.{fields, joined}
 use Rattle.lines.proofs.Joining.{joined-fields}
-use Rattle.refusals.specs.declared.Refusal.{Refusal}
-use Rattle.refusals.specs.declared.Verdict.TheVariants.{Kept, Broken}
 use Rattle.refusals.specs.Conditions.{Unbroken}
 use Rattle.refusals.proofs.Unbroken.{unbroken-first, first-unbroken, unbroken-right}
 use Rattle.settings_model.specs.declared.Settings.{Settings}
 use Rattle.settings_model.specs.Checks.{values_of}
 use Rattle.row_read_model.specs.declared.Heading.{Heading}
-use Rattle.row_read_model.specs.declared.Row.{Row}
-use Rattle.row_read_model.specs.declared.Row.TheVariants.{Read, Refused}
 use Rattle.row_read_model.specs.Names.{columns_under}
 use Rattle.row_read_model.specs.Rows.{headed, columns_read, values_in, settings_of, conditions, row_under}
 use Rattle.row_read_model.specs.Laws.{ReadWhereUnbroken, OneRowForSettings}
@@ -22,26 +18,15 @@ use Rattle.row_read_model.proofs.RowCases.{values_length}
 use Rattle.row_read_model.proofs.Elements.{values-of-settings}
 use Rattle.row_read_model.proofs.OneText.{same-values}
 
--- a row that is refused is not read, and one that is read is read as one thing
-refused-read : (s : Settings) (r : Refusal) → Refused r ≡ Read s → ⊥
-refused-read s r e = false≢true (ap read e) where
-  read : Row → Bool
-  read (Read x) = true
-  read (Refused x) = false
-
-read-once : (x s : Settings) → Read x ≡ Read s → x ≡ s
-read-once x s e = ap settings e where
-  settings : Row → Settings
-  settings (Read y) = y
-  settings (Refused r) = x
-
+-- a row is not both refused and read, and what is read is one thing
 pub read-where-unbroken : ReadWhereUnbroken
 unfolding row_under
 read-where-unbroken heading row s = (
   λ e.
-      (let h = first-unbroken Refused (Read (settings_of (values_in row))) (Read s) (refused-read s) (conditions heading row) e in
-      (h.0, read-once (settings_of (values_in row)) s h.1)),
-  λ h. unbroken-first Refused (Read (settings_of (values_in row))) (conditions heading row) h.0 ∙ ap Read h.1,
+      (let h = first-unbroken Err (Ok (settings_of (values_in row))) (Ok s) (λ r w. cc) (conditions heading row) e in
+      let one = h.1 in
+      (h.0, cc)),
+  λ h. unbroken-first Err (Ok (settings_of (values_in row))) (conditions heading row) h.0 ∙ ap Ok h.1,
 )
 
 -- a row of which no condition is broken is written
@@ -51,7 +36,7 @@ is-written heading row u = unbroken-right (headed heading) (columns_read 1 (colu
 
 -- a row that is written has as many values as there are columns
 all-values : (heading : Heading) (row : List ℕ) → Unbroken (columns_read 1 (columns_under heading) (fields row)) → length (values_in row) ≡ length (columns_under heading)
-all-values heading row u = values_length heading row (unbroken-first Broken Kept (columns_read 1 (columns_under heading) (fields row)) u)
+all-values heading row u = values_length heading row (unbroken-first Err (Ok tt) (columns_read 1 (columns_under heading) (fields row)) u)
 
 -- the same settings have the same values
 same_numbers : (heading : Heading) (vs ws : List ℕ) → length vs ≡ length (columns_under heading) → length ws ≡ length (columns_under heading) → settings_of vs ≡ settings_of ws → vs ≡ ws

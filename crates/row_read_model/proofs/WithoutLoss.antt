@@ -1,4 +1,5 @@
 -- A row of twelve values and the same row with LOSS 0 have the same answer. Assumes nothing.
+use Rattle.std.specs.Prelude.{Ok, Err}
 use mathlib.Core.Path.{◌≡◌, refl, ap, sym, ◌∙◌, subst}
 use mathlib.Core.Bool.{not, cond}
 use mathlib.Core.List.{List, [], ◌∷◌, ◌++◌, map, map-append, append-nil}
@@ -19,7 +20,6 @@ use Rattle.refusals.proofs.Answering.{first-append}
 use Rattle.settings_model.specs.declared.Settings.{Settings}
 use Rattle.settings_model.specs.Columns.{Column, twelve, every_column}
 use Rattle.row_read_model.specs.declared.Heading.TheVariants.{Twelve, Thirteen}
-use Rattle.row_read_model.specs.declared.Row.TheVariants.{Read, Refused}
 use Rattle.row_read_model.specs.Names.{name_line, heading_of, is_other, columns_under}
 use Rattle.row_read_model.specs.Rows.{headed, columns_read, values_in, settings_of, conditions, row_under}
 use Rattle.row_read_model.specs.Laws.{with_zero, SameWithoutLoss}
@@ -90,7 +90,7 @@ pub same-without-loss : SameWithoutLoss
 unfolding row_under conditions headed is_other columns_under first_broken
 same-without-loss row e =
     subst
-    (λ (s : Settings). first_broken Refused (Read s) (conditions Thirteen (with_zero row)) ≡ row_under Twelve row)
+    (λ (s : Settings). first_broken Err (Ok s) (conditions Thirteen (with_zero row)) ≡ row_under Twelve row)
     (sym (settings-without-loss row e))
     (rw (append-nil (columns_read 1 every_column (fields (with_zero row))), append-nil (columns_read 1 twelve (fields row))) at
-    (written-without-loss Refused (Read (settings_of (values_in row))) row [] e))
+    (written-without-loss Err (Ok (settings_of (values_in row))) row [] e))

@@ -1,19 +1,19 @@
 -- Document 01's examples of refusals 1 and 2, with document 02's E5, and cases at their edges, computed in one table. Assumes nothing.
-use Rattle.std.specs.Prelude.{◌≡◌, List, [], ◌∷◌, ◌++◌, ℕ}
+use Rattle.settings_model.specs.declared.Settings.{Settings}
+use Rattle.refusals.specs.declared.Refusal.{Refusal}
+use Rattle.std.specs.Prelude.{◌≡◌, List, [], ◌∷◌, ◌++◌, ℕ, Result, Ok, Err}
 use Prim.Native.String.{String}
 use Rattle.decimal_model.specs.Ascii.{ascii}
 use Rattle.refusals.specs.Refusals.{number_of, place_of}
 use Rattle.settings_model.specs.Columns.{twelve, every_column}
 use Rattle.row_read_model.specs.declared.Heading.TheVariants.{Twelve, Thirteen}
-use Rattle.row_read_model.specs.declared.Row.{Row}
-use Rattle.row_read_model.specs.declared.Row.TheVariants.{Read, Refused}
 use Rattle.row_read_model.specs.Names.{name_line, heading_of}
 use Rattle.row_read_model.specs.Rows.{row_under, named_row}
 
 -- number and place of a refusal; 0 and 0 where the row is read
-unfoldable pub answered : Row → List ℕ
-answered (Read s) = 0 ∷ 0 ∷ []
-answered (Refused r) = number_of r ∷ place_of r ∷ []
+unfoldable pub answered : Result Settings Refusal → List ℕ
+answered (Ok s) = 0 ∷ 0 ∷ []
+answered (Err r) = number_of r ∷ place_of r ∷ []
 
 -- the answer to a row under a name line
 unfoldable pub under : String → String → List ℕ
@@ -54,11 +54,11 @@ pub record Examples : Type 0 where
   pub twelve_under_thirteen : under "BO SO H NR NE OWN SINK BURST RATE HEAD DATA ACK LOSS" "8 4 1 2 1 0 0 1 1 19 7 1" ≡ of 2 13
   -- a row that is read
   pub first : row_under Twelve (ascii "8 4 1 2 1 0 0 1 1 19 7 0")
-      ≡ Read (record { bo = 8; so = 4; h = 1; nr = 2; ne = 1; own = 0; sink = 0; burst = 1; rate = 1; head = 19; payload = 7; ack = 0; loss = 0 })
+      ≡ Ok (record { bo = 8; so = 4; h = 1; nr = 2; ne = 1; own = 0; sink = 0; burst = 1; rate = 1; head = 19; payload = 7; ack = 0; loss = 0 })
   pub largest : row_under Twelve (ascii "14 13 12 7 7 1 12 255 4095 5 122 1")
-      ≡ Read (record { bo = 14; so = 13; h = 12; nr = 7; ne = 7; own = 1; sink = 12; burst = 255; rate = 4095; head = 5; payload = 122; ack = 1; loss = 0 })
+      ≡ Ok (record { bo = 14; so = 13; h = 12; nr = 7; ne = 7; own = 1; sink = 12; burst = 255; rate = 4095; head = 5; payload = 122; ack = 1; loss = 0 })
   pub first_lossy : row_under Thirteen (ascii "8 4 1 2 1 0 0 1 1 19 7 1 3")
-      ≡ Read (record { bo = 8; so = 4; h = 1; nr = 2; ne = 1; own = 0; sink = 0; burst = 1; rate = 1; head = 19; payload = 7; ack = 1; loss = 3 })
+      ≡ Ok (record { bo = 8; so = 4; h = 1; nr = 2; ne = 1; own = 0; sink = 0; burst = 1; rate = 1; head = 19; payload = 7; ack = 1; loss = 3 })
   pub largest_lossy : asked_lossy "14 13 12 7 7 1 12 255 4095 5 122 1 7" ≡ of 0 0
   -- values that cannot be read, are missing, or have text after them
   pub leading_zero : asked "08 4 1 2 1 0 0 1 1 19 7 0" ≡ of 2 1

@@ -1,6 +1,6 @@
 -- A row of settings: its values, and the conditions of numbers 1 and 2 in their order (document 01, 'Rows of settings'; document 02, E5).
 -- Assumes nothing: these are definitions.
-use Rattle.std.specs.Prelude.{ℕ, suc, true, not, List, [], ◌∷◌, ◌++◌, map, get_or}
+use Rattle.std.specs.Prelude.{ℕ, suc, true, not, List, [], ◌∷◌, ◌++◌, map, get_or, Result, Ok, Err}
 use Rattle.decimal_model.specs.Number.{readable, spelled}
 use Rattle.lines.specs.Text.{fields}
 use Rattle.refusals.specs.declared.Refusal.{Refusal}
@@ -8,8 +8,6 @@ use Rattle.refusals.specs.declared.Refusal.TheVariants.{Names, Unreadable, TextA
 use Rattle.refusals.specs.Conditions.{Condition, condition, first_broken}
 use Rattle.settings_model.specs.declared.Settings.{Settings}
 use Rattle.settings_model.specs.Columns.{Column}
-use Rattle.row_read_model.specs.declared.Row.{Row}
-use Rattle.row_read_model.specs.declared.Row.TheVariants.{Read, Refused}
 use Rattle.row_read_model.specs.declared.Heading.{Heading}
 use Rattle.row_read_model.specs.Names.{heading_of, is_other, columns_under}
 
@@ -52,9 +50,9 @@ unfoldable pub conditions : Heading → List ℕ → List (Condition Refusal)
 conditions heading row = headed heading ++ columns_read 1 (columns_under heading) (fields row)
 
 -- its settings, which nobody has checked, or the first refusal
-unfoldable pub row_under : Heading → List ℕ → Row
-row_under heading row = first_broken Refused (Read (settings_of (values_in row))) (conditions heading row)
+unfoldable pub row_under : Heading → List ℕ → Result Settings Refusal
+row_under heading row = first_broken Err (Ok (settings_of (values_in row))) (conditions heading row)
 
 -- both as bytes, without their LF
-unfoldable pub named_row : List ℕ → List ℕ → Row
+unfoldable pub named_row : List ℕ → List ℕ → Result Settings Refusal
 named_row line row = row_under (heading_of line) row

@@ -2,9 +2,6 @@
 // Definitions, laws and examples, and no function: crate row_read answers them.
 #![tactic(auto)]
 
-use refusals::Refusal;
-use settings_model::Settings;
-
 // Which line of names a line is.
 #[derive(Clone, Copy)]
 pub enum Heading {
@@ -14,11 +11,4 @@ pub enum Heading {
     Thirteen,
     // Neither.
     Other,
-}
-
-// What a row's bytes are: settings that keep every condition, or the first refusal.
-#[derive(Clone, Copy)]
-pub enum Row {
-    Read(Settings),
-    Refused(Refusal),
 }

@@ -6,42 +6,38 @@
 #![tactic(auto)]
 
 ghost use Rattle.std.specs.Prelude.{◌≡◌};
-ghost use Rattle.refusals.specs.declared.Verdict.TheVariants.{Kept, Broken};
-ghost use Rattle.refusals.specs.Conditions.{first_broken};
+ghost use Rattle.refusals.specs.Conditions.{verdict};
 ghost use Rattle.settings_model.specs.Checks.{values_of, at_odds, checks, radio_ranged, radio_at_odds, radio_checks};
 ghost use Rattle.settings_model.specs.Checks as definition;
 
 use crate::columns::in_range;
 use crate::odds::{frame_agrees, orders_agree, shape_agrees};
-use refusals::Verdict;
+use refusals::Refusal;
 use settings_model::{Radio, Settings};
 
 mod columns; // the values' ranges: number 3
 mod odds; // values at odds: number 4
 
 // Whether the settings of a row keep every range and are not at odds, or the first refusal of numbers 3 and 4.
-pub fn check(s: Settings) -> Verdict
-    ensures { result ≡ first_broken Broken Kept (checks s) }
+#[tactic(auto, using(refusals::proofs::Answering::two_verdicts), unfolding(settings_model::specs::Checks::checks))]
+pub fn check(s: Settings) -> Result<(), Refusal>
+    ensures { result ≡ verdict (checks s) }
 {
-    let verdict = in_range(0, &values_of(s));
-    if let Verdict::Broken(_) = verdict {
-        return verdict;
-    }
+    in_range(0, &values_of(s))?;
     agree(s)
 }
 
 // The same of what comes beside a node list.
-pub fn check_radio(b: Radio) -> Verdict
-    ensures { result ≡ first_broken Broken Kept (radio_checks b) }
+#[tactic(auto, using(refusals::proofs::Answering::two_verdicts), unfolding(settings_model::specs::Checks::radio_checks))]
+pub fn check_radio(b: Radio) -> Result<(), Refusal>
+    ensures { result ≡ verdict (radio_checks b) }
 {
-    let verdict = radio_in_range(b);
-    if let Verdict::Broken(_) = verdict {
-        return verdict;
-    }
+    radio_in_range(b)?;
     radio_agrees(b)
 }
 
-// What a row sets on every radio.
+// What a row sets on every radio. Stays as it is: both types are of settings_model, which has no function (a rule of the project), so no From
+// stands beside them.
 pub fn radio_of(s: Settings) -> Radio
     ensures { result ≡ definition.radio_of s }
 {
@@ -56,6 +52,7 @@ pub fn radio_of(s: Settings) -> Radio
 }
 
 // The values of a row in the columns' order.
+#[tactic(auto, unfolding(settings_model::specs::Checks::values_of))]
 fn values_of(s: Settings) -> [u64; 13]
     ensures { result ≡ values_of s }
 {
@@ -66,39 +63,30 @@ fn values_of(s: Settings) -> [u64; 13]
 }
 
 // Number 4 of a row.
-fn agree(s: Settings) -> Verdict
-    ensures { result ≡ first_broken Broken Kept (at_odds s) }
+#[tactic(auto, using(refusals::proofs::Answering::two_verdicts), unfolding(settings_model::specs::Checks::at_odds))]
+fn agree(s: Settings) -> Result<(), Refusal>
+    ensures { result ≡ verdict (at_odds s) }
 {
     let b = radio_of(s);
-    let verdict = orders_agree(b);
-    if let Verdict::Broken(_) = verdict {
-        return verdict;
-    }
-    let verdict = shape_agrees(s);
-    if let Verdict::Broken(_) = verdict {
-        return verdict;
-    }
+    orders_agree(b)?;
+    shape_agrees(s)?;
     frame_agrees(b)
 }
 
 // Number 3 of what comes beside a node list: columns 1 and 2, and 10 to 13.
-fn radio_in_range(b: Radio) -> Verdict
-    ensures { result ≡ first_broken Broken Kept (radio_ranged b) }
+#[tactic(auto, using(refusals::proofs::Answering::two_verdicts), unfolding(settings_model::specs::Checks::radio_ranged))]
+fn radio_in_range(b: Radio) -> Result<(), Refusal>
+    ensures { result ≡ verdict (radio_ranged b) }
 {
-    let verdict = in_range(0, &[b.bo, b.so]);
-    if let Verdict::Broken(_) = verdict {
-        return verdict;
-    }
+    in_range(0, &[b.bo, b.so])?;
     in_range(9, &[b.head, b.payload, b.ack, b.loss])
 }
 
 // Number 4 of what comes beside a node list.
-fn radio_agrees(b: Radio) -> Verdict
-    ensures { result ≡ first_broken Broken Kept (radio_at_odds b) }
+#[tactic(auto, using(refusals::proofs::Answering::two_verdicts), unfolding(settings_model::specs::Checks::radio_at_odds))]
+fn radio_agrees(b: Radio) -> Result<(), Refusal>
+    ensures { result ≡ verdict (radio_at_odds b) }
 {
-    let verdict = orders_agree(b);
-    if let Verdict::Broken(_) = verdict {
-        return verdict;
-    }
+    orders_agree(b)?;
     frame_agrees(b)
 }

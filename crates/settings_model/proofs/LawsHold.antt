@@ -1,5 +1,5 @@
 -- The laws of specs/Laws. Assumes nothing.
-use Rattle.refusals.specs.declared.Verdict.TheVariants.{Kept, Broken}
+use Rattle.std.specs.Prelude.{Ok, Err}
 use Rattle.refusals.proofs.Unbroken.{unbroken-first, kept-unbroken, unbroken-append, unbroken-left, unbroken-right}
 use Rattle.settings_model.specs.Checks.{ranged, values_of, at_odds, checks, radio_checks}
 use Rattle.settings_model.specs.Laws.{UnbrokenWhereChecked, KeptWhereChecked, UnbrokenWhereRadioChecked, KeptWhereRadioChecked}
@@ -15,7 +15,7 @@ unbroken-where-checked s = (
 pub kept-where-checked : KeptWhereChecked
 kept-where-checked s = (
   λ e. (unbroken-where-checked s).0 (kept-unbroken (checks s) e),
-  λ k. unbroken-first Broken Kept (checks s) ((unbroken-where-checked s).1 k),
+  λ k. unbroken-first Err (Ok tt) (checks s) ((unbroken-where-checked s).1 k),
 )
 
 pub unbroken-where-radio-checked : UnbrokenWhereRadioChecked
@@ -24,5 +24,5 @@ unbroken-where-radio-checked b = (unbroken-radio b, radio-unbroken b)
 pub kept-where-radio-checked : KeptWhereRadioChecked
 kept-where-radio-checked b = (
   λ e. unbroken-radio b (kept-unbroken (radio_checks b) e),
-  λ k. unbroken-first Broken Kept (radio_checks b) (radio-unbroken b k),
+  λ k. unbroken-first Err (Ok tt) (radio_checks b) (radio-unbroken b k),
 )

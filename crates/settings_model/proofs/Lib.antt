@@ -1,6 +1,4 @@
 -- Laws about the definitions of specs/. Assumes nothing.
--- sums compared without being made
-pub mod Sums
 -- number 3, column by column
 pub mod Ranging
 -- the columns' ranges, as the code's tests tell them

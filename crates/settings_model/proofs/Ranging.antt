@@ -1,4 +1,5 @@
 -- Conditions of number 3, column by column. Assumes nothing.
+use Rattle.std.specs.Prelude.{Ok, Err}
 use mathlib.Core.Path.{◌≡◌, refl}
 use mathlib.Core.Bool.{true, false, not}
 use mathlib.Core.List.{List, ◌∷◌}
@@ -6,9 +7,7 @@ use Prim.Native.Nat.{ℕ, suc, ◌+◌, ◌<◌}
 use lib.ListN.{length, get_or, drop}
 use lib.Seq.{drop-cons, drop-length}
 use Rattle.refusals.specs.declared.Refusal.TheVariants.{OutOfRange}
-use Rattle.refusals.specs.declared.Verdict.TheVariants.{Kept, Broken}
-use Rattle.refusals.specs.Conditions.{condition, first_broken}
-use Rattle.refusals.proofs.Answering.{verdict}
+use Rattle.refusals.specs.Conditions.{condition, first_broken, verdict}
 use Rattle.settings_model.specs.Columns.{column, twelve, every_column, column_at, in_range}
 use Rattle.settings_model.specs.Checks.{ranged}
 
@@ -28,7 +27,7 @@ module _ (k i : ℕ) (vs : List ℕ) (h : i < length vs) where
   unfolding ranged
   ranged-next = rw (drop-cons vs i 0 h)
 
-  pub ranged-out : in_range (column_at (k + i)) (get_or vs i 0) ≡ false → verdict (ranged (k + i) (drop i vs)) ≡ Broken (OutOfRange (suc (k + i)) (get_or vs i 0))
+  pub ranged-out : in_range (column_at (k + i)) (get_or vs i 0) ≡ false → verdict (ranged (k + i) (drop i vs)) ≡ Err (OutOfRange (suc (k + i)) (get_or vs i 0))
   unfolding first_broken
   ranged-out e = rw (ranged-next, e)
 
@@ -37,6 +36,6 @@ module _ (k i : ℕ) (vs : List ℕ) (h : i < length vs) where
   ranged-in e = rw (ranged-next, e)
 
 -- behind the last value nothing is asked
-pub ranged-all : (k : ℕ) (vs : List ℕ) → verdict (ranged k (drop (length vs) vs)) ≡ Kept
+pub ranged-all : (k : ℕ) (vs : List ℕ) → verdict (ranged k (drop (length vs) vs)) ≡ Ok tt
 unfolding ranged first_broken
 ranged-all k vs = rw (drop-length vs) refl

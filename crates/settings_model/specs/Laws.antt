@@ -1,7 +1,6 @@
 -- What holds of settings, for the layers above. Assumes nothing: these are statements; proofs/LawsHold proves them.
-use Rattle.std.specs.Prelude.{◌≡◌, ◌↔◌, ◌+◌, ◌≤◌, ◌<◌}
-use Rattle.refusals.specs.declared.Verdict.TheVariants.{Kept, Broken}
-use Rattle.refusals.specs.Conditions.{first_broken, Unbroken}
+use Rattle.std.specs.Prelude.{◌≡◌, ◌↔◌, ◌+◌, ◌≤◌, ◌<◌, Ok}
+use Rattle.refusals.specs.Conditions.{Unbroken, verdict}
 use Rattle.settings_model.specs.declared.Settings.{Settings}
 use Rattle.settings_model.specs.declared.Radio.{Radio}
 use Rattle.settings_model.specs.Checks.{radio_of, checks, radio_checks}
@@ -46,11 +45,11 @@ UnbrokenWhereChecked = (s : Settings) → Unbroken (checks s) ↔ Checked s
 
 -- and so the answer is that all is kept exactly there
 abbrev pub KeptWhereChecked : Type 0
-KeptWhereChecked = (s : Settings) → (first_broken Broken Kept (checks s) ≡ Kept) ↔ Checked s
+KeptWhereChecked = (s : Settings) → (verdict (checks s) ≡ Ok tt) ↔ Checked s
 
 -- both for what comes beside a node list
 abbrev pub UnbrokenWhereRadioChecked : Type 0
 UnbrokenWhereRadioChecked = (b : Radio) → Unbroken (radio_checks b) ↔ CheckedRadio b
 
 abbrev pub KeptWhereRadioChecked : Type 0
-KeptWhereRadioChecked = (b : Radio) → (first_broken Broken Kept (radio_checks b) ≡ Kept) ↔ CheckedRadio b
+KeptWhereRadioChecked = (b : Radio) → (verdict (radio_checks b) ≡ Ok tt) ↔ CheckedRadio b

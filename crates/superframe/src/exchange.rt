@@ -9,7 +9,7 @@ use measure::Symbols;
 const LONGEST: u64 = 340;
 
 // The radio maker's table: M from 6 to 127, for each without acknowledgement and then with.
-const TABLE: [u16; 244] = [
+static TABLE: [u16; 244] = [
     36, // 6 octets
     70, // 6 octets, acknowledged
     38, // 7 octets
@@ -258,20 +258,14 @@ const TABLE: [u16; 244] = [
 
 // X for a frame of that many octets, 6 to 127. For any other count: 340, the longest of all exchanges, so that nothing that is
 // planned with it comes out too short.
+#[tactic(auto, unfolding(superframe_model::specs::Exchange::exchange_for, superframe_model::specs::ExchangeTable::InOrder, superframe_model::specs::ExchangeTable::entry_index))]
 pub fn exchange_time(octets: u64, acknowledged: bool) -> Symbols
     ensures { result ≡ exchange_for octets acknowledged }
 {
-    if octets < 6 {
+    if octets < 6 || 127 < octets {
         return Symbols(LONGEST);
     }
-    if 127 < octets {
-        return Symbols(LONGEST);
-    }
-    let first = 2 * (octets - 6);
-    if acknowledged {
-        return table_entry(first + 1);
-    }
-    table_entry(first)
+    table_entry(2 * (octets - 6) + u64::from(acknowledged))
 }
 
 // An entry of the table, counted from 0. M rises from 6 to 127, two entries for each: without acknowledgement and then with, so that entry
@@ -281,7 +275,8 @@ pub fn table_entry(index: u64) -> Symbols
     ensures in_order { InOrder index result }
 {
     if index < 244 {
-        return Symbols(TABLE[index as usize] as u64);
+        Symbols(u64::from(TABLE[index as usize]))
+    } else {
+        Symbols(LONGEST)
     }
-    Symbols(LONGEST)
 }

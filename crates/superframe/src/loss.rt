@@ -1,5 +1,5 @@
 // How long an exchange lasts where some tries of its frame may fail (document 02, E5).
-ghost use Rattle.std.specs.Prelude.{◌≡◌, min, ◌≤◌};
+ghost use Rattle.std.specs.Prelude.{◌≡◌};
 ghost use Rattle.superframe_model.specs.Loss.{lossy_exchange_for};
 
 use crate::exchange::exchange_time;
@@ -13,16 +13,10 @@ const WAIT: u64 = 20;
 
 // X + LOSS × (X + 20) for a frame of that many octets, 6 to 127, and LOSS up to 7. Other octets are taken as the longest frame, and a LOSS
 // above 7 as 7.
+#[tactic(auto, using(superframe_model::proofs::ExchangeLaws::exchanges), unfolding(superframe_model::specs::Loss::lossy_exchange_for, superframe_model::specs::Loss::with_loss, superframe_model::specs::Loss::failed_try))]
 pub fn lossy_exchange_time(octets: u64, acknowledged: bool, loss: u64) -> Symbols
     ensures { result ≡ lossy_exchange_for octets acknowledged loss }
 {
     let x = exchange_time(octets, acknowledged).0;
-    Symbols(x + failures(loss) * (x + WAIT))
-}
-
-fn failures(loss: u64) -> u64
-    ensures value { result ≡ min loss 7 }
-    ensures upper_bound { result ≤ 7 }
-{
-    if loss <= MOST { loss } else { MOST }
+    Symbols(x + loss.min(MOST) * (x + WAIT))
 }

@@ -64,3 +64,6 @@ exchange-for-most m a = elim (dec_le 6 m) [
   ]
   | no f ↦ rw (exchange-for-short m a (omega arith)) (omega arith)
 ]
+
+-- for functions that time exchanges
+pub ruleset exchanges = (exchange-for-most)

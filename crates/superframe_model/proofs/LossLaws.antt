@@ -1,14 +1,14 @@
 -- Laws of the exchange time with loss. Assumes nothing.
 use mathlib.Core.Path.{◌≡◌, ap}
-use Prim.Native.Nat.{ℕ, ◌+◌, ◌*◌, ◌≤◌, min}
+use Prim.Native.Nat.{ℕ, ◌+◌, ◌≤◌, min}
 use native.Mathlib.Nat.{mul-le-mul, mul-le-mul_right}
 use mathlib.Core.Bool.{Bool}
 use native.Mathlib.Omega.{arith}
 use Rattle.measure.specs.declared.Symbols.{Symbols}
 use Rattle.measure.specs.Measures.{symbols}
-use Rattle.superframe_model.specs.Exchange.{air_time, acknowledgement, exchange, exchange_for}
+use Rattle.superframe_model.specs.Exchange.{air_time, acknowledgement, exchange}
 use Rattle.superframe_model.specs.Loss.{failed_try, with_loss, lossy_exchange, lossy_exchange_for, tries, HoldsTries}
-use Rattle.superframe_model.proofs.ExchangeLaws.{exchange-for-octets, exchange-some, exchange-most, exchange-for-most}
+use Rattle.superframe_model.proofs.ExchangeLaws.{exchange-for-octets, exchange-some, exchange-most}
 
 pub holds-tries : HoldsTries
 unfolding failed_try with_loss lossy_exchange tries exchange air_time acknowledgement
@@ -41,17 +41,3 @@ with-loss-most x loss h few =
 pub lossy-most : (m : ℕ) (a : Bool) (loss : ℕ) → m ≤ 127 → loss ≤ 7 → (lossy_exchange m a loss).0 ≤ 2860
 unfolding lossy_exchange
 lossy-most m a loss high few = with-loss-most (exchange m a) loss (exchange-most m a high) few
-
--- ---- for the function: the answer's parts fit, and make it
-module _ (m : ℕ) (a : Bool) (x : Symbols) (e : x ≡ exchange_for m a) where
-  pub answered-most : x.0 ≤ 340
-  answered-most = rw e (exchange-for-most m a)
-
-  pub failures-most : (n : ℕ) → n ≤ 7 → n * (x.0 + 20) ≤ 2520
-  failures-most n h =
-      let y : x.0 + 20 ≤ 360 = omega (arith, answered-most) in
-      mul-le-mul h y
-
-  pub lossy-made : (loss n : ℕ) → n ≡ min loss 7 → symbols (x.0 + n * (x.0 + 20)) ≡ lossy_exchange_for m a loss
-  unfolding lossy_exchange_for with_loss failed_try
-  lossy-made loss n f = rw (f, e)

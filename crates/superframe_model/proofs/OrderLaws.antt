@@ -118,3 +118,6 @@ window-fits so bo g k h l =
 -- 440 symbols and a beacon that pass 64 bits leave nothing of any superframe
 pub reservable-past : (so g : ℕ) → so ≤ 14 → 2 ^ 64 ≤ 440 + (beacon_length g).0 → (reservable so g).0 ≡ 0
 reservable-past so g l h = reservable-none so g (omega (arith, slot-most so l))
+
+-- for functions that count what is left of a superframe
+pub ruleset leftovers = (reservable-past)

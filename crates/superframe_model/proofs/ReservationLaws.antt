@@ -1,15 +1,13 @@
 -- Laws of a reservation: frames held, slots for a rate, latency. Assumes nothing.
 use mathlib.Core.Path.{◌≡◌, refl, ap}
-use Prim.Native.Nat.{ℕ, ◌+◌, ◌-◌, ◌*◌, ◌^◌, ◌≤◌, ◌<◌}
+use Prim.Native.Nat.{ℕ, ◌+◌, ◌-◌, ◌*◌, ◌≤◌, ◌<◌}
 use native.Mathlib.Omega.{arith}
 use native.Mathlib.Nat.{mul-le-mul_right, le-div_iff_mul-le, div-mul-le_self, div-zero, add-sub_of_le}
 use Rattle.measure.specs.declared.Symbols.{Symbols}
 use Rattle.measure.specs.declared.Slots.{Slots}
 use Rattle.measure.specs.declared.Frames.{Frames}
 use Rattle.measure.specs.declared.Rate.{Rate}
-use mathlib.Core.Bool.{Bool, true, false, cond}
-use lib.Dec.{ltb}
-use Rattle.measure.specs.Measures.{frames, up_to_64, within}
+use Rattle.measure.specs.Measures.{frames}
 use Rattle.superframe_model.specs.Reservation.{frames_in, rate, slots_for, Smallest, latency}
 use Rattle.measure.proofs.Rounding.{rounded-up-holds, rounded-up-least}
 
@@ -75,31 +73,10 @@ pub latency-most : (interval : Symbols) (m : Frames) (x : Symbols) → 1 ≤ m.0
 unfolding latency
 latency-most interval m x h = omega (arith, mul-le-mul_right x.0 h)
 
--- how the code comes by m where an exchange takes no time, and by T: for 0 and 1 exchanges by sums that stop at 64 bits, for more by
--- document 01's difference, whose product stops there too
-pub frames-none : (k : Slots) (s x : Symbols) → x.0 ≡ 0 → frames 0 ≡ within (k.0 * s.0) (frames_in k s x) (frames 0)
-unfolding frames_in
-frames-none k s x z = rw (z, div-zero) (either (ltb (k.0 * s.0) (2 ^ 64)))
-  where
-    either : (b : Bool) → frames 0 ≡ cond b (frames 0) (frames 0)
-    either true = refl
-    either false = refl
-
-pub latency-by-sums : (interval : Symbols) (m : Frames) (x : Symbols) → m.0 ≡ 0 →
-    up_to_64 (up_to_64 (interval.0 + x.0) + x.0) ≡ up_to_64 (latency interval m x).0
-unfolding latency
-latency-by-sums interval m x z = rw z (omega arith)
-
-pub latency-by-sum : (interval : Symbols) (m : Frames) (x : Symbols) → m.0 ≡ 1 →
-    up_to_64 (interval.0 + x.0) ≡ up_to_64 (latency interval m x).0
-unfolding latency
-latency-by-sum interval m x z = rw z (omega arith)
-
-pub latency-by-rest : (interval : Symbols) (m : Frames) (x : Symbols) → 2 ≤ m.0 → interval.0 < 2 ^ 64 →
-    interval.0 - up_to_64 ((m.0 - 2) * x.0) ≡ up_to_64 (latency interval m x).0
-latency-by-rest interval m x h l = rw (latency-two interval m x h) (omega arith)
-
 -- a reservation of m frames serves m frames in each interval
 pub rate-is : (m : Frames) → (rate m).0 ≡ m.0
 unfolding rate
 rate-is m = refl
+
+-- for functions that count frames and slots
+pub ruleset reservations = (div-zero)

@@ -3,10 +3,10 @@
 #![tactic(auto)]
 
 use input::read_full;
-use lines::{Cursor, Line, next_line, part};
-use refusals::{Refusal, Verdict};
+use lines::{Cursor, next_line, part};
+use refusals::Refusal;
 use row_read::{heading_of, is_other, read_named_row, read_row};
-use row_read_model::{Heading, Row};
+use row_read_model::Heading;
 use settings_model::Settings;
 use std::io;
 
@@ -23,144 +23,79 @@ fn main(rt: HostRuntime) -> io::Result<()> {
 
 // Texts whose name line is missing, differs or stands alone.
 fn texts(rt: &impl Print) -> io::Result<()> {
-    through(rt, b"")?;
-    through(rt, b"\n")?;
-    through(rt, b"BO SO H NR NE OWN SINK BURST RATE HEAD DATA ACK")?;
-    through(rt, b"BO SO H NR NE OWN SINK BURST RATE HEAD DATA ACK\n")?;
-    through(
-        rt,
+    let texts: [&[u8]; 12] = [
+        b"",
+        b"\n",
+        b"BO SO H NR NE OWN SINK BURST RATE HEAD DATA ACK",
+        b"BO SO H NR NE OWN SINK BURST RATE HEAD DATA ACK\n",
         b"BO SO H NR NE OWN SINK BURST RATE HEAD DATA ACK\r\n8 4 1 2 1 0 0 1 1 19 7 0\n",
-    )?;
-    through(
-        rt,
         b"BO SO H NR NE OWN SINK BURST RATE HEAD DATA ACK \n8 4 1 2 1 0 0 1 1 19 7 0\n",
-    )?;
-    through(
-        rt,
         b" BO SO H NR NE OWN SINK BURST RATE HEAD DATA ACK\n8 4 1 2 1 0 0 1 1 19 7 0\n",
-    )?;
-    through(
-        rt,
         b"BO SO H NR NE OWN SINK BURST RATE HEAD DATA\n8 4 1 2 1 0 0 1 1 19 7\n",
-    )?;
-    through(
-        rt,
         b"bo so h nr ne own sink burst rate head data ack\n8 4 1 2 1 0 0 1 1 19 7 0\n",
-    )?;
-    through(
-        rt,
         b"\nBO SO H NR NE OWN SINK BURST RATE HEAD DATA ACK\n8 4 1 2 1 0 0 1 1 19 7 0\n",
-    )?;
-    through(rt, b"BO SO H NR NE OWN SINK BURST RATE HEAD DATA ACK\n\n")?;
-    through(
-        rt,
+        b"BO SO H NR NE OWN SINK BURST RATE HEAD DATA ACK\n\n",
         b"BO SO H NR NE OWN SINK BURST RATE HEAD DATA ACK\n\n\n8 4 1 2 1 0 0 1 1 19 7 0",
-    )?;
+    ];
+    for text in texts {
+        through(rt, text)?;
+    }
     end(rt)
 }
 
 // Rows under 13 names (document 02, E5).
 fn lossy_texts(rt: &impl Print) -> io::Result<()> {
-    through(rt, b"BO SO H NR NE OWN SINK BURST RATE HEAD DATA ACK LOSS")?;
-    through(
-        rt,
+    let texts: [&[u8]; 15] = [
+        b"BO SO H NR NE OWN SINK BURST RATE HEAD DATA ACK LOSS",
         b"BO SO H NR NE OWN SINK BURST RATE HEAD DATA ACK LOSS \n8 4 1 2 1 0 0 1 1 19 7 0 0\n",
-    )?;
-    through(
-        rt,
         b"BO SO H NR NE OWN SINK BURST RATE HEAD DATA ACK  LOSS\n8 4 1 2 1 0 0 1 1 19 7 0 0\n",
-    )?;
-    through(
-        rt,
         b"BO SO H NR NE OWN SINK BURST RATE HEAD DATA LOSS ACK\n8 4 1 2 1 0 0 1 1 19 7 0 0\n",
-    )?;
-    through(
-        rt,
         b"BO SO H NR NE OWN SINK BURST RATE HEAD DATA ACK LOSS LOSS\n8 4 1 2 1 0 0 1 1 19 7 0 0 0\n",
-    )?;
-    through(
-        rt,
         b"BO SO H NR NE OWN SINK BURST RATE HEAD DATA ACK LOSS\n8 4 1 2 1 0 0 1 1 19 7 0 0\n8 4 1 2 1 0 0 1 1 19 7 1 0\n",
-    )?;
-    through(
-        rt,
         b"BO SO H NR NE OWN SINK BURST RATE HEAD DATA ACK LOSS\n8 4 1 2 1 0 0 1 1 19 7 1 1\n8 4 1 2 1 0 0 1 1 19 7 1 7\n",
-    )?;
-    through(
-        rt,
         b"BO SO H NR NE OWN SINK BURST RATE HEAD DATA ACK LOSS\n8 4 1 2 1 0 0 1 1 19 7 1 8\n8 4 1 2 1 0 0 1 1 19 7 2 8\n",
-    )?;
-    through(
-        rt,
         b"BO SO H NR NE OWN SINK BURST RATE HEAD DATA ACK LOSS\n8 4 1 2 1 0 0 1 1 19 7 1 9999\n8 4 1 2 1 0 0 1 1 19 7 1 10000\n",
-    )?;
-    through(
-        rt,
         b"BO SO H NR NE OWN SINK BURST RATE HEAD DATA ACK LOSS\n8 4 1 2 1 0 0 1 1 19 7 0 1\n8 4 1 2 1 0 0 1 1 126 2 0 1\n",
-    )?;
-    through(
-        rt,
         b"BO SO H NR NE OWN SINK BURST RATE HEAD DATA ACK LOSS\n8 4 1 2 1 0 0 1 1 19 7 0\n8 4 1 2 1 0 0 1 1 19 7 0 \n",
-    )?;
-    through(
-        rt,
         b"BO SO H NR NE OWN SINK BURST RATE HEAD DATA ACK LOSS\n8 4 1 2 1 0 0 1 1 19 7 0 x\n8 4 1 2 1 0 0 1 1 19 7 0 01\n",
-    )?;
-    through(
-        rt,
         b"BO SO H NR NE OWN SINK BURST RATE HEAD DATA ACK LOSS\n8 4 1 2 1 0 0 1 1 19 7 0 0 \n8 4 1 2 1 0 0 1 1 19 7 0 0 0\n",
-    )?;
-    through(
-        rt,
         b"BO SO H NR NE OWN SINK BURST RATE HEAD DATA ACK LOSS\n4 8 1 2 1 0 0 1 1 19 7 0 1\n4 8 1 2 1 0 0 1 1 19 7 0 8\n",
-    )?;
-    through(
-        rt,
         b"BO SO H NR NE OWN SINK BURST RATE HEAD DATA ACK\n8 4 1 2 1 0 0 1 1 19 7 1 1\n8 4 1 2 1 0 0 1 1 19 7 1\n",
-    )?;
+    ];
+    for text in texts {
+        through(rt, text)?;
+    }
     end(rt)
 }
 
 // A row under a name line: the names come first.
 fn named_rows(rt: &impl Print) -> io::Result<()> {
-    answer(rt, read_named_row(b"", b""))?;
-    answer(rt, read_named_row(b"BO", b"8 4 1 2 1 0 0 1 1 19 7 0"))?;
-    answer(
-        rt,
-        read_named_row(
+    let pairs: [(&[u8], &[u8]); 8] = [
+        (b"", b""),
+        (b"BO", b"8 4 1 2 1 0 0 1 1 19 7 0"),
+        (
             b"BO SO H NR NE OWN SINK BURST RATE HEAD DATA ACK\n",
             b"8 4 1 2 1 0 0 1 1 19 7 0",
         ),
-    )?;
-    answer(
-        rt,
-        read_named_row(
+        (
             b"BO SO H NR NE OWN SINK BURST RATE HEAD DATA ACK",
             b"8 4 1 2 1 0 0 1 1 19 7 0",
         ),
-    )?;
-    answer(
-        rt,
-        read_named_row(
+        (
             b"BO SO H NR NE OWN SINK BURST RATE HEAD DATA ACK",
             b"8 4 1 2 1 0 0 1 1 19 7 0\n",
         ),
-    )?;
-    answer(
-        rt,
-        read_named_row(b"BO SO H NR NE OWN SINK BURST RATE HEAD DATA ACK", b""),
-    )?;
-    answer(
-        rt,
-        read_named_row(
+        (b"BO SO H NR NE OWN SINK BURST RATE HEAD DATA ACK", b""),
+        (
             b"BO SO H NR NE OWN SINK BURST RATE HEAD DATA ACK LOSS",
             b"8 4 1 2 1 0 0 1 1 19 7 1 3",
         ),
-    )?;
-    answer(
-        rt,
-        read_named_row(b"BO SO H NR NE OWN SINK BURST RATE HEAD DATA ACK LOSS", b""),
-    )
+        (b"BO SO H NR NE OWN SINK BURST RATE HEAD DATA ACK LOSS", b""),
+    ];
+    for (names, row) in pairs {
+        answer(rt, read_named_row(names, row))?;
+    }
+    Ok(())
 }
 
 // Parts that a text has and has not.
@@ -177,29 +112,25 @@ fn parts(rt: &impl Print) -> io::Result<()> {
 
 // A text's name line and rows.
 fn through(rt: &impl Print, text: &[u8]) -> io::Result<()> {
-    let line = next_line(text, Cursor { at: 0 });
-    let Line::Found { start, end, next } = line else {
+    let Some(line) = next_line(text, Cursor { at: 0 }) else {
         return refused(rt, Refusal::Names);
     };
-    let heading = heading_of(part(text, start, end));
+    let heading = heading_of(part(text, line.start, line.end));
     if is_other(heading) {
         refused(rt, Refusal::Names)
     } else {
-        rows(rt, heading, text, next)
+        rows(rt, heading, text, line.next)
     }
 }
 
 // Where each row of a text starts and ends, and what it is.
 fn rows(rt: &impl Print, heading: Heading, text: &[u8], first: Cursor) -> io::Result<()> {
     let mut cursor = first;
-    loop {
-        let line = next_line(text, cursor);
-        let Line::Found { start, end, next } = line else {
-            return Ok(());
-        };
-        row_line(rt, heading, text, start, end)?;
-        cursor = next;
+    while let Some(line) = next_line(text, cursor) {
+        row_line(rt, heading, text, line.start, line.end)?;
+        cursor = line.next;
     }
+    Ok(())
 }
 
 fn row_line(
@@ -216,44 +147,35 @@ fn row_line(
     answer(rt, read_row(heading, part(text, start, end)))
 }
 
-fn answer(rt: &impl Print, row: Row) -> io::Result<()> {
-    match row {
-        Row::Read(settings) => checked(rt, settings),
-        Row::Refused(refusal) => refused(rt, refusal),
+fn answer(rt: &impl Print, row: Result<Settings, Refusal>) -> io::Result<()> {
+    match checked(row) {
+        Ok(settings) => read(rt, settings),
+        Err(refusal) => refused(rt, refusal),
     }
 }
 
 // Settings that keep numbers 3 and 4, or the refusal.
-fn checked(rt: &impl Print, s: Settings) -> io::Result<()> {
-    let verdict = settings::check(s);
-    if let Verdict::Broken(refusal) = verdict {
-        return refused(rt, refusal);
-    }
-    read(rt, s)
+fn checked(row: Result<Settings, Refusal>) -> Result<Settings, Refusal> {
+    let settings = row?;
+    settings::check(settings)?;
+    Ok(settings)
 }
 
 fn refused(rt: &impl Print, refusal: Refusal) -> io::Result<()> {
     word(rt, b"R")?;
-    number(rt, refusal.number() as u64)?;
-    number(rt, refusal.place() as u64)?;
+    number(rt, u64::from(refusal.number()))?;
+    number(rt, u64::from(refusal.place()))?;
     end(rt)
 }
 
 fn read(rt: &impl Print, s: Settings) -> io::Result<()> {
     word(rt, b"read")?;
-    number(rt, s.bo)?;
-    number(rt, s.so)?;
-    number(rt, s.h)?;
-    number(rt, s.nr)?;
-    number(rt, s.ne)?;
-    number(rt, s.own)?;
-    number(rt, s.sink)?;
-    number(rt, s.burst)?;
-    number(rt, s.rate)?;
-    number(rt, s.head)?;
-    number(rt, s.payload)?;
-    number(rt, s.ack)?;
-    number(rt, s.loss)?;
+    for value in [
+        s.bo, s.so, s.h, s.nr, s.ne, s.own, s.sink, s.burst, s.rate, s.head, s.payload, s.ack,
+        s.loss,
+    ] {
+        number(rt, value)?;
+    }
     end(rt)
 }
 

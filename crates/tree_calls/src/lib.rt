@@ -17,12 +17,13 @@ use buffer::put_bytes;
 use calls::{answer_of, leave, refused};
 use calls_model::Answer;
 use reason_print::put_reason;
-use refusals::{Refusal, Verdict};
+use refusals::Refusal;
 use settings_model::Radio;
 use tree_decide::decide;
 use tree_plan::plan_within;
 
 // Plans the tree of a node list, and writes nothing: no text fits one byte.
+// Stays as it is: the C interface hands over what comes beside a list number by number, here and below.
 pub fn check_tree(
     nodes: &[u8],
     bo: u32,
@@ -38,7 +39,7 @@ pub fn check_tree(
 {
     let b = radio_from(bo, so, head, payload, ack, loss);
     let mut space = [0u8; 1];
-    answer_of(plan_within(nodes, b, sink as u64, &mut space))
+    answer_of(plan_within(nodes, b, u64::from(sink), &mut space))
 }
 
 // Plans the tree of a node list, and puts its text at the front of the lent buffer. A refused tree, also one whose text is longer than the
@@ -58,11 +59,10 @@ pub fn plan_tree(
     ensures promised_tree { PromisedTree nodes.now (radio bo so head payload ack loss) sink result out.new }
 {
     let b = radio_from(bo, so, head, payload, ack, loss);
-    let plan = plan_within(nodes, b, sink as u64, out);
-    if out.len() < plan.length {
-        return refused(Refusal::LentTooShort);
+    match plan_within(nodes, b, u64::from(sink), out) {
+        Ok(length) if out.len() < length => refused(Refusal::LentTooShort),
+        planned => answer_of(planned),
     }
-    answer_of(plan)
 }
 
 // Puts one line of English at the front of the lent buffer: why the tree is refused, or that it is planned. A buffer that is shorter than the
@@ -84,24 +84,23 @@ pub fn explain_tree(
     let b = radio_from(bo, so, head, payload, ack, loss);
     let mut table = [0u64; 1];
     let mut hops = [0u8; 1];
-    let decided = decide(nodes, b, sink as u64, &mut table, &mut hops);
+    let decided = decide(nodes, b, u64::from(sink), &mut table, &mut hops);
     let answer = answer_of(decided);
-    let verdict = decided.verdict;
     let mut line = [0u8; reason_print::LONGEST];
-    let n = put_tree_verdict(&mut line, verdict);
+    let n = put_tree_verdict(&mut line, decided);
     leave(answer.number, answer.place, &line[..n], out)
 }
 
 // Puts the line of a tree that was refused, or that it is planned, and answers its length.
-fn put_tree_verdict(out: &mut [u8], verdict: Verdict) -> usize
-    ensures value { result ≡ length (tree_verdict_line verdict) }
+fn put_tree_verdict(out: &mut [u8], planned: Result<usize, Refusal>) -> usize
+    ensures value { result ≡ length (tree_verdict_line planned) }
     ensures upper_bound { result ≤ 160 }
-    ensures out_after { out.new ≡ sets out.old 0 (tree_verdict_line verdict) }
+    ensures out_after { out.new ≡ sets out.old 0 (tree_verdict_line planned) }
 {
-    if let Verdict::Broken(refusal) = verdict {
-        return put_reason(out, refusal);
+    match planned {
+        Ok(_) => put_bytes(out, 0, b"The tree is planned."),
+        Err(refusal) => put_reason(out, refusal),
     }
-    put_bytes(out, 0, b"The tree is planned.")
 }
 
 // What comes beside a node list.
@@ -109,11 +108,11 @@ fn radio_from(bo: u32, so: u32, head: u32, payload: u32, ack: u32, loss: u32) ->
     ensures { result ≡ radio bo so head payload ack loss }
 {
     Radio {
-        bo: bo as u64,
-        so: so as u64,
-        head: head as u64,
-        payload: payload as u64,
-        ack: ack as u64,
-        loss: loss as u64,
+        bo: u64::from(bo),
+        so: u64::from(so),
+        head: u64::from(head),
+        payload: u64::from(payload),
+        ack: u64::from(ack),
+        loss: u64::from(loss),
     }
 }

@@ -15,7 +15,7 @@ use Rattle.tree_calls_model.specs.Broken.{pair_list}
 use Rattle.tree_calls_model.specs.Examples.{tree_plan, tree_call, tree_explained, TreeExamples}
 
 pub tree-examples-hold : TreeExamples
-unfolding lists worded joined ended letter report.numbers tree_header node_text tree_text answer_to_refusal answer_to buffer_after room outcome_within leaves plan_tree check_tree plans.planned plans.refused plans.answer line_left tree_verdict_line explain_tree lent pair_list tree_plan tree_call tree_explained
+unfolding lists worded joined ended letter report.numbers tree_header node_text tree_text answer_to_refusal answer_to buffer_after room outcome_within leaves plan_tree check_tree plans.answer line_left tree_verdict_line explain_tree lent pair_list tree_plan tree_call tree_explained
 tree-examples-hold = record {
   check = refl;
   exact = refl;

@@ -1,9 +1,8 @@
 -- What the entries for C that plan surveyed trees answer and leave (document 02, E3): from bytes to bytes. `b` are the settings beside.
 -- Assumes nothing: these are definitions.
-use Rattle.std.specs.Prelude.{ℕ, List, ◌++◌}
+use Rattle.std.specs.Prelude.{ℕ, List, ◌++◌, Result, Ok, Err}
 use Rattle.decimal_model.specs.Ascii.{ascii}
-use Rattle.refusals.specs.declared.Verdict.{Verdict}
-use Rattle.refusals.specs.declared.Verdict.TheVariants.{Kept, Broken}
+use Rattle.refusals.specs.declared.Refusal.{Refusal}
 use Rattle.settings_model.specs.declared.Radio.{Radio}
 use Rattle.tree_model.specs.Lines.{lines}
 use Rattle.tree_model.specs.Checks.{conditions}
@@ -24,11 +23,11 @@ unfoldable pub check_tree : List ℕ → Radio → ℕ → Answer
 check_tree nodes b sink = answer_to tree_text (outcome_in nodes b sink)
 
 -- the line of a tree that is refused, or planned
-unfoldable pub tree_verdict_line : Verdict → List ℕ
-tree_verdict_line Kept = ascii "The tree is planned."
-tree_verdict_line (Broken r) = reason r
+unfoldable pub tree_verdict_line : Result ℕ Refusal → List ℕ
+tree_verdict_line (Ok n) = ascii "The tree is planned."
+tree_verdict_line (Err r) = reason r
 
 -- the entry that puts this line: it answers number and place of the refusal, 0 and 0 where the tree is planned
 unfoldable pub explain_tree : List ℕ → Radio → ℕ → List ℕ → Left
 explain_tree nodes b sink before =
-    line_left (check_tree nodes b sink).number (check_tree nodes b sink).place (tree_verdict_line (answer tree_text (outcome_in nodes b sink)).verdict) before
+    line_left (check_tree nodes b sink).number (check_tree nodes b sink).place (tree_verdict_line (answer tree_text (outcome_in nodes b sink))) before

@@ -4,7 +4,7 @@
 // No public function has a `requires`.
 #![tactic(auto)]
 
-ghost use Rattle.std.specs.Prelude.{◌≡◌, ℕ, ◌≤◌, length, get_or};
+ghost use Rattle.std.specs.Prelude.{◌≡◌, ◌≤◌, length};
 ghost use Rattle.tree_plan_model.specs.Children.{Linked, router_in};
 
 // Where the parts of a table of kin begin, behind the parents.
@@ -18,15 +18,10 @@ pub fn link_children(parents: &[u8], kin: &mut [u8; 768])
     ensures linked { length parents.now ≤ 256 → Linked parents.now kin.new }
     ensures kin_len { length kin.new ≡ 768 }
 {
-    clear(kin);
-    let mut w = parents.len();
-    if FIRST < w {
-        w = FIRST;
-    }
-    while 1 < w {
-        w -= 1;
+    kin.fill(0);
+    for w in (1..parents.len().min(FIRST)).rev() {
         let parent = parents[w];
-        let first = FIRST + parent as usize;
+        let first = FIRST + usize::from(parent);
         kin[w] = parent;
         kin[NEXT + w] = kin[first];
         kin[first] = w as u8;
@@ -34,25 +29,9 @@ pub fn link_children(parents: &[u8], kin: &mut [u8; 768])
 }
 
 // Whether a node of linked children is a router: the root, or a node with a child.
+#[tactic(auto, unfolding(tree_plan_model::specs::Children::router_in))]
 pub fn is_router(kin: &[u8; 768], v: usize) -> bool
     ensures { result ≡ router_in kin.now v }
 {
-    if v == 1 {
-        return true;
-    }
-    if v < FIRST {
-        return 0 < kin[FIRST + v];
-    }
-    false
-}
-
-// Sets every entry to 0.
-fn clear(table: &mut [u8])
-    ensures { (i : ℕ) → get_or table.new i 0 ≡ 0 }
-{
-    let mut i = 0;
-    while i < table.len() {
-        table[i] = 0;
-        i += 1;
-    }
+    v == 1 || (v < FIRST && 0 < kin[FIRST + v])
 }

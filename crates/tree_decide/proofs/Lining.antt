@@ -9,13 +9,14 @@ use lib.ListN.{length}
 use borrow.Author.Tests.{eq-eqb, ne_eqb, lt-ltb, le-ltb}
 use Rattle.measure.specs.declared.Frames.{Frames}
 use Rattle.measure.specs.declared.Symbols.{Symbols}
-use Rattle.measure.specs.Measures.{symbols, slots, frames, whole_frames}
+use Rattle.measure.specs.Measures.{symbols, whole_frames}
 use Rattle.links.specs.declared.Timing.{Timing}
 use Rattle.links.specs.declared.Load.{Load}
 use Rattle.links.specs.declared.Figures.{Figures}
 use Rattle.plan_model.specs.declared.Kind.{Kind}
 use Rattle.plan_model.specs.declared.Kind.TheVariants.{EndNode, Upward, Downward, Sink}
 use Rattle.plan_model.specs.declared.NodeLine.{NodeLine}
+use Rattle.plan_model.specs.Lines.{no_figures}
 use Rattle.tree_model.specs.Tree.{is_router}
 use Rattle.tree_model.specs.Ways.{next, child_towards, kind_of, depth_of}
 use Rattle.tree_model.proofs.WayLaws.{leads-down}
@@ -24,10 +25,10 @@ use Rattle.tree_plan_model.specs.Tables.{Led, link_for, sink_for, figures_for, w
 
 -- ---- figures
 
-pub sink-made : (a : Timing) (l : Load) (b : Frames) → b ≡ whole_frames l.burst a.interval
-    → ◌≡◌ {A = Figures} (record { rate = l.rate; burst = l.burst; slots = slots 0; frames = frames 0; latency = symbols 0; buffer = b; delay = symbols 0 }) (sink_for a l)
-unfolding sink_for
-sink-made a l b e = rw e
+pub sink-made : (a : Timing) (l : Load) (n : Figures) (b : Frames) → n ≡ no_figures → b ≡ whole_frames l.burst a.interval
+    → ◌≡◌ {A = Figures} (record { rate = l.rate; burst = l.burst; slots = n.slots; frames = n.frames; latency = n.latency; buffer = b; delay = n.delay }) (sink_for a l)
+unfolding sink_for no_figures
+sink-made a l n b en e = rw (en, e)
 
 pub figures-at-sink : (a : Timing) (sink v : ℕ) (l : Load) (f : Figures) → v ≡ sink → f ≡ sink_for a l → f ≡ figures_for a sink v l
 unfolding figures_for
@@ -36,14 +37,6 @@ figures-at-sink a sink v l f e q = q ∙ rw (eq-eqb v sink e)
 pub figures-elsewhere : (a : Timing) (sink v : ℕ) (l : Load) (f : Figures) → (v ≡ sink → ⊥) → f ≡ link_for a l → f ≡ figures_for a sink v l
 unfolding figures_for
 figures-elsewhere a sink v l f n q = q ∙ rw (ne_eqb v sink n)
-
--- ---- ROUTE
-
-pub route-none : (l : Load) (w : Symbols) → l.rate.0 ≡ 0 → symbols 0 ≡ symbols (cond (eqb l.rate.0 0) 0 w.0)
-route-none l w e = rw (eq-eqb l.rate.0 0 e)
-
-pub route-some : (l : Load) (w : Symbols) → (l.rate.0 ≡ 0 → ⊥) → w ≡ symbols (cond (eqb l.rate.0 0) 0 w.0)
-route-some l w n = rw (ne_eqb l.rate.0 0 n)
 
 -- ---- KIND
 

@@ -1,8 +1,7 @@
 -- Lines in a table, one node's behind another's. Assumes nothing.
 use mathlib.Core.Path.{◌≡◌, refl, sym, ap, ◌∙◌}
 use mathlib.Core.List.{List, [], ◌∷◌, ◌++◌}
-use Prim.Native.Nat.{ℕ, suc, ◌+◌, ◌*◌, ◌≤◌, min}
-use native.Mathlib.Numerals.{add-one}
+use Prim.Native.Nat.{ℕ, suc, ◌+◌, ◌-◌, ◌*◌, ◌≤◌, min}
 use native.Mathlib.Omega.{arith}
 use lib.ListN.{length}
 use lib.Seq.{sets}
@@ -26,12 +25,14 @@ module _ (a : Timing) (ps ns : List ℕ) (sink : ℕ) where
   unfolding lines_in join rows_of
   lines_none e = refl
 
-  pub lines-put : (e table table' : List ℕ) (n : ℕ) (l : NodeLine) → n ≤ 254 → table ≡ sets e 0 (tree_table (lines_in a ps ns sink n)) → l ≡ line_in a ps ns sink (n + 1)
-      → table' ≡ sets table (10 * min n 254) (node_numbers l) → table' ≡ sets e 0 (tree_table (lines_in a ps ns sink (n + 1)))
-  lines-put e table table' n l h et el eo =
-      let p : List NodeLine = lines_in a ps ns sink n in
-      let m : 10 * min n 254 ≡ 10 * length p = omega (arith, lines-length a ps ns sink n) in
-      let q : l ≡ line_in a ps ns sink (suc n) = rw (add-one n) at el in
-      let s : sets table (10 * min n 254) (node_numbers l) ≡ sets e 0 (tree_table (p ++ (l ∷ []))) = rw (m, et) (nodes-put e p l) in
-      let w : p ++ (l ∷ []) ≡ lines_in a ps ns sink (n + 1) = rw (add-one n, q) (sym (lines_more n)) in
+  -- that of node v, behind those of the nodes before it
+  pub lines-put : (e table table' : List ℕ) (v : ℕ) (l : NodeLine) → 1 ≤ v → v ≤ 254 → table ≡ sets e 0 (tree_table (lines_in a ps ns sink (v - 1))) → l ≡ line_in a ps ns sink v
+      → table' ≡ sets table (10 * min (v - 1) 254) (node_numbers l) → table' ≡ sets e 0 (tree_table (lines_in a ps ns sink (v + 1 - 1)))
+  lines-put e table table' v l one h et el eo =
+      let p : List NodeLine = lines_in a ps ns sink (v - 1) in
+      let m : 10 * min (v - 1) 254 ≡ 10 * length p = omega (arith, lines-length a ps ns sink (v - 1)) in
+      let s : sets table (10 * min (v - 1) 254) (node_numbers l) ≡ sets e 0 (tree_table (p ++ (l ∷ []))) = rw (m, et) (nodes-put e p l) in
+      let on : v + 1 - 1 ≡ v = omega arith in
+      let here : suc (v - 1) ≡ v = omega arith in
+      let w : p ++ (l ∷ []) ≡ lines_in a ps ns sink (v + 1 - 1) = rw (on, el) (sym (rw here at (lines_more (v - 1)))) in
       eo ∙ s ∙ ap (λ (x : List NodeLine). sets e 0 (tree_table x)) w

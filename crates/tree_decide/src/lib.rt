@@ -5,9 +5,8 @@
 // `requires` say what.
 #![tactic(auto)]
 
-ghost use Rattle.std.specs.Prelude.{◌≡◌, ◌≤◌};
+ghost use Rattle.std.specs.Prelude.{◌≡◌, ◌≤◌, IfOk, OnOk};
 ghost use Rattle.std.proofs.lemmas.List.Edits.{sets};
-ghost use Rattle.refusals.specs.declared.Verdict.TheVariants.{Kept};
 ghost use Rattle.tree_model.specs.Lines.{lines};
 ghost use Rattle.tree_model.specs.Promise.{Keeps};
 ghost use Rattle.tree_read_model.specs.Survey.{tree_in, outcome_in};
@@ -16,9 +15,8 @@ ghost use Rattle.node_table_model.specs.NodeRows.{tree_table};
 ghost use Rattle.tree_plan_model.specs.Hops.{hops_of};
 
 use crate::node_lines::put_lines;
-use plan_common::{refused_plan, timing_of};
-use plan_model::Plan;
-use refusals::Verdict;
+use plan_common::timing_of;
+use refusals::Refusal;
 use settings_model::Radio;
 use tree_hops::hops_of;
 
@@ -28,38 +26,33 @@ mod node_lines; // the lines of the plan
 // Decides on the tree of a text with any settings and any sink: its verdict, and, as far as there is room, ten numbers for each node at the
 // front of a lent table and three beside. Both are left as they were where the tree is refused. Where it is planned, demand 3 holds of the
 // lines.
-pub fn decide(input: &[u8], b: Radio, sink: u64, table: &mut [u64], hops: &mut [u8]) -> Plan
+pub fn decide(
+    input: &[u8],
+    b: Radio,
+    sink: u64,
+    table: &mut [u64],
+    hops: &mut [u8],
+) -> Result<usize, Refusal>
     ensures value { result ≡ answer tree_table (outcome_in input.now b sink) }
-    ensures length_bound { result.length ≤ 2540 }
+    ensures length_bound { IfOk result (λ n. n ≤ 2540) }
     ensures table_after { table.new ≡ sets table.old 0 (written tree_table (outcome_in input.now b sink)) }
     ensures hops_after { hops.new ≡ sets hops.old 0
         (written (hops_of (tree_in input.now) sink) (outcome_in input.now b sink)) }
-    ensures keeps { result.verdict ≡ Kept → Keeps b (tree_in input.now) sink (lines b (tree_in input.now) sink) }
+    ensures keeps { OnOk result (Keeps b (tree_in input.now) sink (lines b (tree_in input.now) sink)) }
 {
     let mut notes = [0u64; 768];
     let mut depths = [0u8; 256];
     let mut ways = [0u64; 256];
-    let stage = hops_of(input, b, sink, &mut notes, &mut depths, &mut ways, hops);
-    let verdict = stage.verdict;
-    if let Verdict::Broken(refusal) = verdict {
-        return refused_plan(refusal);
-    }
-    let nodes = stage.nodes;
-    let n = nodes + 1;
-    let parents = stage.kin;
-    let kin = stage.kin;
+    let stage = hops_of(input, b, sink, &mut notes, &mut depths, &mut ways, hops)?;
     put_lines(
         timing_of(b),
-        &parents[..n],
-        &kin,
+        &stage.kin[..=stage.nodes],
+        &stage.kin,
         &notes,
         &depths,
         &ways,
         sink as usize,
         table,
     );
-    Plan {
-        verdict: Verdict::Kept,
-        length: 10 * nodes,
-    }
+    Ok(10 * stage.nodes)
 }

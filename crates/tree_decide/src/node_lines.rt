@@ -37,11 +37,9 @@ pub(crate) fn put_lines(
     ensures { table.new ≡ sets table.old 0
         (tree_table (lines_in t parents.now notes.now sink (length parents.now - 1))) }
 {
-    let mut v = 0;
-    while v < parents.len() - 1 {
-        let line = line_of(t, parents, kin, notes, depths, ways, sink, v + 1);
-        put_node(table, v, line);
-        v += 1;
+    for v in 1..parents.len() {
+        let line = line_of(t, parents, kin, notes, depths, ways, sink, v);
+        put_node(table, v - 1, line);
     }
 }
 
@@ -67,7 +65,7 @@ fn line_of(
 {
     let load = load_at(notes, v);
     let kind = kind_of(parents, kin, notes, sink, v);
-    let depth = wide(depths[v]);
+    let depth = u64::from(depths[v]);
     let figures = node_figures(t, sink, v, load);
     let line = Line {
         kind,
@@ -82,10 +80,7 @@ fn line_of(
 fn route_with(load: Load, way: Symbols) -> Symbols
     ensures { result ≡ symbols (cond (eqb load.rate.0 0) 0 way.0) }
 {
-    if load.rate.0 == 0 {
-        return Symbols(0);
-    }
-    way
+    if load.rate.0 == 0 { Symbols(0) } else { way }
 }
 
 // KIND of node v.
@@ -98,20 +93,12 @@ fn kind_of(parents: &[u8], kin: &[u8; 768], notes: &[u64; 768], sink: usize, v: 
     ensures { result ≡ kind_of (shape parents.now) sink v }
 {
     if v == sink {
-        return Kind::Sink;
+        Kind::Sink
+    } else if v < towards_at(notes, v) {
+        Kind::Downward
+    } else if is_router(kin, v) {
+        Kind::Upward
+    } else {
+        Kind::EndNode
     }
-    if v < towards_at(notes, v) {
-        return Kind::Downward;
-    }
-    if is_router(kin, v) {
-        return Kind::Upward;
-    }
-    Kind::EndNode
-}
-
-// A depth.
-fn wide(depth: u8) -> u64
-    ensures { result ≡ depth }
-{
-    depth as u64
 }

@@ -3,13 +3,12 @@ use mathlib.Core.Path.{◌≡◌, refl, sym, ap, ◌∙◌}
 use mathlib.Core.Bool.{Bool, true, false, cond}
 use mathlib.Core.List.{List, [], ◌∷◌, ◌++◌}
 use Prim.Native.Nat.{ℕ, zero, suc, ◌+◌, ◌-◌, ◌*◌, ◌≤◌, ◌<◌}
-use native.Mathlib.Numerals.{add-one}
 use native.Mathlib.Decide.{ℕ_discrete}
 use native.Mathlib.Omega.{arith}
 use lib.Dec.{eqb, ltb}
-use lib.ListN.{length, get_or, set, length-append}
+use lib.ListN.{length, get_or, length-append}
 use lib.Seq.{sets}
-use borrow.Author.Tests.{eq-eqb, ne_eqb}
+use borrow.Author.Tests.{ne_eqb}
 use Rattle.buffer.proofs.Putting.{sets-sets}
 use Rattle.network.specs.Counting.{join}
 use Rattle.tree_model.specs.Ways.{next}
@@ -17,14 +16,6 @@ use Rattle.tree_model.proofs.WayLaws.{at-sink, next-node}
 use Rattle.tree_plan_model.specs.Inner.{shape, towards_in}
 use Rattle.tree_plan_model.specs.Tables.{Led, superframe_in}
 use Rattle.tree_plan_model.specs.Hops.{hop_by, hops_by}
-
--- three numbers, put one behind another
-pub three-put : (e one two three : List ℕ) (at x y z : ℕ) → one ≡ set e (at + 0) x → two ≡ set one (at + 1) y → three ≡ set two (at + 2) z → three ≡ sets e at (x ∷ y ∷ z ∷ [])
-three-put e one two three at x y z e1 e2 e3 =
-    let p0 : at + 0 ≡ at = omega arith in
-    let p1 : at + 1 ≡ suc at = omega arith in
-    let p2 : at + 2 ≡ suc (suc at) = omega arith in
-    cc
 
 module _ (ps ns : List ℕ) (sink : ℕ) where
   hops-more : (n : ℕ) → hops_by ps ns sink (suc n) ≡ hops_by ps ns sink n ++ hop_by ps ns sink (suc n)
@@ -47,11 +38,14 @@ module _ (ps ns : List ℕ) (sink : ℕ) where
   unfolding hops_by join
   hops-none e = refl
 
-  pub hops-put : (e hops hops' : List ℕ) (n : ℕ) → hops ≡ sets e 0 (hops_by ps ns sink n) → hops' ≡ sets hops (3 * (n + 1 - 1)) (hop_by ps ns sink (n + 1)) → hops' ≡ sets e 0 (hops_by ps ns sink (n + 1))
-  hops-put e hops hops' n eh eo =
-      let m : 3 * (n + 1 - 1) ≡ 0 + length (hops_by ps ns sink n) = omega (arith, hops-length n) in
-      let s : sets hops (3 * (n + 1 - 1)) (hop_by ps ns sink (n + 1)) ≡ sets e 0 (hops_by ps ns sink n ++ hop_by ps ns sink (n + 1)) = rw (m, eh) (sets-sets e 0 (hops_by ps ns sink n) (hop_by ps ns sink (n + 1))) in
-      let w : hops_by ps ns sink n ++ hop_by ps ns sink (n + 1) ≡ hops_by ps ns sink (n + 1) = rw (add-one n) (sym (hops-more n)) in
+  -- those of node v, behind those of the nodes before it
+  pub hops-put : (e hops hops' : List ℕ) (v : ℕ) → 1 ≤ v → hops ≡ sets e 0 (hops_by ps ns sink (v - 1)) → hops' ≡ sets hops (3 * (v - 1)) (hop_by ps ns sink v) → hops' ≡ sets e 0 (hops_by ps ns sink (v + 1 - 1))
+  hops-put e hops hops' v one eh eo =
+      let m : 3 * (v - 1) ≡ 0 + length (hops_by ps ns sink (v - 1)) = omega (arith, hops-length (v - 1)) in
+      let s : sets hops (3 * (v - 1)) (hop_by ps ns sink v) ≡ sets e 0 (hops_by ps ns sink (v - 1) ++ hop_by ps ns sink v) = rw (m, eh) (sets-sets e 0 (hops_by ps ns sink (v - 1)) (hop_by ps ns sink v)) in
+      let on : v + 1 - 1 ≡ v = omega arith in
+      let here : suc (v - 1) ≡ v = omega arith in
+      let w : hops_by ps ns sink (v - 1) ++ hop_by ps ns sink v ≡ hops_by ps ns sink (v + 1 - 1) = rw on (sym (rw here at (hops-more (v - 1)))) in
       eo ∙ s ∙ ap (λ (x : List ℕ). sets e 0 x) w
 
   -- they are bytes
@@ -81,12 +75,9 @@ module _ (ps ns : List ℕ) (sink : ℕ) where
         by false false = omega (arith, L.planted.smaller v one (omega (arith, most)))
 
   -- a node's three, as they are read and put
-  pub hop-put : (e one two three : List ℕ) (at v y z : ℕ) → y ≡ towards_in ns v → z ≡ cond (eqb v sink) 0 (superframe_in ps ns v) → one ≡ set e (at + 0) (get_or ps v 0) → two ≡ set one (at + 1) y → three ≡ set two (at + 2) z → three ≡ sets e at (hop_by ps ns sink v)
+  pub hop-put : (hops hops' : List ℕ) (at v y z : ℕ) → y ≡ towards_in ns v → z ≡ cond (eqb v sink) 0 (superframe_in ps ns v) → hops' ≡ sets hops at (get_or ps v 0 ∷ y ∷ z ∷ []) → hops' ≡ sets hops at (hop_by ps ns sink v)
   unfolding hop_by
-  hop-put e one two three at v y z ey ez e1 e2 e3 = rw (← ey, ← ez) (three-put e one two three at (get_or ps v 0) y z e1 e2 e3)
-
-  pub hop-sink : (v : ℕ) → v ≡ sink → 0 ≡ cond (eqb v sink) 0 (superframe_in ps ns v)
-  hop-sink v e = rw (eq-eqb v sink e)
+  hop-put hops hops' at v y z ey ez e = rw (← ey, ← ez) e
 
   pub hop-elsewhere : (v r : ℕ) → (v ≡ sink → ⊥) → r ≡ superframe_in ps ns v → r ≡ cond (eqb v sink) 0 (superframe_in ps ns v)
   hop-elsewhere v r n e = e ∙ rw (ne_eqb v sink n)

@@ -1,4 +1,6 @@
 -- The outcome by the verdict on all conditions, and what was put beside it. Assumes nothing.
+use Rattle.refusals.specs.Conditions.{verdict}
+use Rattle.std.specs.Prelude.{Ok, Err}
 use mathlib.Core.Path.{◌≡◌, refl, sym, ap, ◌∙◌}
 use mathlib.Core.Bool.{cond}
 use mathlib.Core.List.{List}
@@ -9,9 +11,8 @@ use lib.Dec.{eqb}
 use lib.ListN.{length, take}
 use borrow.Author.Tests.{eq-eqb}
 use Rattle.refusals.specs.declared.Refusal.{Refusal}
-use Rattle.refusals.specs.declared.Verdict.TheVariants.{Kept, Broken}
 use Rattle.refusals.specs.Outcome.{Planned, Refused}
-use Rattle.refusals.proofs.Answering.{verdict, answer-broken, answer-kept}
+use Rattle.refusals.proofs.Answering.{answer-broken, answer-kept}
 use Rattle.network.specs.Counting.{join}
 use Rattle.settings_model.specs.declared.Radio.{Radio}
 use Rattle.plan_model.specs.Times.{timing_of}
@@ -24,11 +25,11 @@ use Rattle.tree_plan_model.specs.Hops.{hop_of, hops_of, hop_by, hops_by}
 use Rattle.tree_plan_model.proofs.Tabled.{Tabled, tabled, parents-held, lines-length}
 
 module _ (input : List ℕ) (b : Radio) (sink : ℕ) where
-  pub outcome-refused : (r : Refusal) → verdict (conditions_in input b sink) ≡ Broken r → Refused r ≡ outcome_in input b sink
+  pub outcome-refused : (r : Refusal) → verdict (conditions_in input b sink) ≡ Err r → Refused r ≡ outcome_in input b sink
   unfolding outcome_in conditions_in
   outcome-refused r e = sym (answer-broken Refused (Planned (lines b (tree_in input) sink)) (conditions_in input b sink) r e)
 
-  pub outcome-planned : verdict (conditions_in input b sink) ≡ Kept → Planned (lines b (tree_in input) sink) ≡ outcome_in input b sink
+  pub outcome-planned : verdict (conditions_in input b sink) ≡ Ok tt → Planned (lines b (tree_in input) sink) ≡ outcome_in input b sink
   unfolding outcome_in conditions_in
   outcome-planned e = sym (answer-kept Refused (Planned (lines b (tree_in input) sink)) (conditions_in input b sink) e)
 
@@ -57,7 +58,7 @@ module _ (input : List ℕ) (b : Radio) (sink : ℕ) where
     unfolding hops_of
     hops-decided = rw lines-many (hops-to n (omega (arith, H.nodes)))
 
-    many : length (take (n + 1) ks) - 1 ≡ n
+    pub many : length (take (n + 1) ks) - 1 ≡ n
     unfolding tree_in tree_from
     many = rw (parents-held input b sink n ks ns H) (omega (arith, H.nodes))
 

@@ -5,7 +5,7 @@ ghost use Rattle.std.proofs.lemmas.List.Edits.{sets};
 ghost use Rattle.tree_plan_model.specs.Hops.{hop_by, hops_by};
 ghost use Rattle.tree_plan_model.specs.Tables.{Led, superframe_in};
 
-use buffer::put_byte;
+use buffer::put_bytes;
 use tree_notes::{superframe_at, towards_at};
 
 // Puts those of each node, as far as there is room.
@@ -15,10 +15,8 @@ pub(crate) fn put_hops(parents: &[u8], notes: &[u64; 768], sink: usize, hops: &m
     ensures { hops.new ≡ sets hops.old 0
         (hops_by parents.now notes.now sink (length parents.now - 1)) }
 {
-    let mut v = 0;
-    while v < parents.len() - 1 {
-        put_hop(parents, notes, sink, v + 1, hops);
-        v += 1;
+    for v in 1..parents.len() {
+        put_hop(parents, notes, sink, v, hops);
     }
 }
 
@@ -30,10 +28,9 @@ fn put_hop(parents: &[u8], notes: &[u64; 768], sink: usize, v: usize, hops: &mut
     requires v_in_bounds { v < length parents.now }
     ensures { hops.new ≡ sets hops.old (3 * (v - 1)) (hop_by parents.now notes.now sink v) }
 {
-    let at = 3 * (v - 1);
-    put_byte(hops, at, 0, parents[v]);
-    put_byte(hops, at, 1, towards_at(notes, v) as u8);
-    put_byte(hops, at, 2, superframe_of(parents, notes, sink, v) as u8);
+    let towards = towards_at(notes, v) as u8;
+    let router = superframe_of(parents, notes, sink, v) as u8;
+    put_bytes(hops, 3 * (v - 1), &[parents[v], towards, router]);
 }
 
 // The router in whose superframe the link of node v lies: none at the sink.
@@ -43,7 +40,8 @@ fn superframe_of(parents: &[u8], notes: &[u64; 768], sink: usize, v: usize) -> u
     ensures { result ≡ cond (eqb v sink) 0 (superframe_in parents.now notes.now v) }
 {
     if v == sink {
-        return 0;
+        0
+    } else {
+        superframe_at(notes, parents[v], v)
     }
-    superframe_at(notes, parents[v], v)
 }

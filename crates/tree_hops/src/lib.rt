@@ -7,15 +7,14 @@
 
 ghost use Rattle.std.specs.Prelude.{◌≡◌};
 ghost use Rattle.std.proofs.lemmas.List.Edits.{sets};
-ghost use Rattle.refusals.specs.declared.Verdict.TheVariants.{Kept, Broken};
-ghost use Rattle.refusals.specs.Conditions.{first_broken};
+ghost use Rattle.refusals.specs.Conditions.{verdict, verdict_of};
 ghost use Rattle.tree_read_model.specs.Survey.{tree_in, outcome_in};
 ghost use Rattle.plan_model.specs.Plans.{written};
 ghost use Rattle.tree_plan_model.specs.Hops.{hops_of};
 ghost use Rattle.tree_plan_model.specs.Stages.{conditions_in, LoadsLeft, WaysLeft};
 
 use crate::hops::put_hops;
-use refusals::Verdict;
+use refusals::Refusal;
 use settings_model::Radio;
 use tree_plan_model::Stage;
 use tree_ways::ways_of;
@@ -33,20 +32,15 @@ pub fn hops_of(
     depths: &mut [u8; 256],
     ways: &mut [u64; 256],
     hops: &mut [u8],
-) -> Stage
-    ensures verdict_value { result.verdict ≡ first_broken Broken Kept (conditions_in input.now b sink) }
+) -> Result<Stage, Refusal>
+    ensures verdict_value { verdict_of result ≡ verdict (conditions_in input.now b sink) }
     ensures loads_left { LoadsLeft input.now b sink result notes.old notes.new }
-    ensures ways_left { WaysLeft input.now b sink result.verdict notes.new depths.old depths.new
+    ensures ways_left { WaysLeft input.now b sink (verdict_of result) notes.new depths.old depths.new
         ways.old ways.new }
     ensures hops_after { hops.new ≡ sets hops.old 0
         (written (hops_of (tree_in input.now) sink) (outcome_in input.now b sink)) }
 {
-    let stage = ways_of(input, b, sink, notes, depths, ways);
-    let verdict = stage.verdict;
-    if let Verdict::Kept = verdict {
-        let n = stage.nodes + 1;
-        let kin = stage.kin;
-        put_hops(&kin[..n], notes, sink as usize, hops);
-    }
-    stage
+    let stage = ways_of(input, b, sink, notes, depths, ways)?;
+    put_hops(&stage.kin[..=stage.nodes], notes, sink as usize, hops);
+    Ok(stage)
 }

@@ -1,34 +1,27 @@
 -- The node lines of a text, read one after another. Assumes nothing.
+use Rattle.std.specs.Prelude.{Result, Ok, Err, None}
 use mathlib.Core.Path.{◌≡◌, refl, sym, ap, ◌∙◌}
-use mathlib.Core.Bool.{Bool, true, false}
+use mathlib.Core.Bool.{true, false}
 use mathlib.Core.List.{List, [], ◌∷◌, ◌++◌, map, map-append, append-nil}
-use Prim.Native.Nat.{ℕ, zero, suc, ◌+◌, ◌≤◌}
+use Prim.Native.Nat.{ℕ, suc, ◌+◌, ◌≤◌}
 use native.Mathlib.Numerals.{add-one}
 use native.Mathlib.Omega.{arith}
-use lib.ListN.{length, get_or, take, drop, set, length-append, length-set}
+use lib.ListN.{length, take, drop, set, length-append, length-set}
 use lib.Seq.{append_snoc, take-suc-set}
 use Rattle.lines.specs.declared.Cursor.{Cursor}
-use Rattle.lines.specs.declared.Line.TheVariants.{Found, Nothing}
 use Rattle.decimal_model.specs.Ascii.{ascii}
-use Rattle.lines.specs.Text.{same, lines, line_at, part_of}
+use Rattle.lines.specs.Text.{same, lines, line_at, part_of, found}
 use Rattle.lines.proofs.LawsHold.{found-advances, nothing-is-left}
+use Rattle.refusals.specs.declared.Refusal.{Refusal}
 use Rattle.refusals.specs.declared.Refusal.TheVariants.{InTree}
 use Rattle.refusals.specs.declared.TreeRefusal.TheVariants.{NodeNames, NodeLine}
-use Rattle.refusals.specs.declared.Verdict.TheVariants.{Broken}
-use Rattle.refusals.specs.Conditions.{first_broken}
-use Rattle.refusals.proofs.Answering.{verdict, broken-kept}
+use Rattle.refusals.specs.Conditions.{first_broken, verdict}
 use Rattle.tree_read_model.specs.Entries.{entry_in, line_right, is_name_line, name_line}
 use Rattle.tree_read_model.specs.Survey.{node_lines, parent_in, burst_in, rate_in, named, lines_from, listed}
 use Rattle.tree_read_model.proofs.Listed.{says}
-use Rattle.tree_plan_model.specs.declared.Count.{Count}
-use Rattle.tree_plan_model.specs.Lists.{Space, Front, TakenNode, Holding, ReadFrom, ReadList, lines_behind, broken_by, list_end}
+use Rattle.tree_plan_model.specs.Lists.{Space, TakenNode, Holding, ReadFrom, ReadText, lines_behind}
 
 -- ---- the values that were taken
-
--- entry 0 alone
-front-alone : (l : List ℕ) → length l ≡ 255 → get_or l 0 0 ≡ 0 → take 1 l ≡ 0 ∷ []
-front-alone [] e z = absurd (omega arith)
-front-alone (x ∷ xs) e z = ap (λ (n : ℕ). n ∷ []) z
 
 -- one entry more
 one_more : (f : List ℕ → ℕ) (ls : List (List ℕ)) (line : List ℕ) (k : ℕ) (ps ps' : List ℕ) → length ls ≡ k → k ≤ 253 → length ps ≡ 255
@@ -43,16 +36,6 @@ right-few : (k : ℕ) (line : List ℕ) → line_right k line ≡ true → k ≤
 unfolding line_right
 right-few k line e = (says k (entry_in line) e).few
 
--- a node that was taken from the bytes of a line
-pub taken_as : (k : ℕ) (line line' : List ℕ) (r : Bool) (ps bs rs ps' bs' rs' : List ℕ) → TakenNode k line r ps bs rs ps' bs' rs' → r ≡ true → line ≡ line'
-    → TakenNode k line' true ps bs rs ps' bs' rs'
-taken_as k line line' r ps bs rs ps' bs' rs' t e q = record {
-  right = sym e ∙ t.right ∙ ap (line_right k) q;
-  parents = λ z. t.parents e ∙ ap (λ (l : List ℕ). set ps k (parent_in (entry_in l))) q;
-  bursts = λ z. t.bursts e ∙ ap (λ (l : List ℕ). set bs k (burst_in (entry_in l))) q;
-  rates = λ z. t.rates e ∙ ap (λ (l : List ℕ). set rs k (rate_in (entry_in l))) q;
-}
-
 -- ---- turns
 
 -- after k node lines, at a position of the text
@@ -65,21 +48,6 @@ pub record Turn (input : List ℕ) (from k at : ℕ) (ps bs rs : List ℕ) : Typ
   pub kept : verdict (lines_from 1 (lines_behind input from)) ≡ verdict (lines_from (suc k) (lines_behind input at))
   pub space : Space ps bs rs
 
-pub turn-none : (input : List ℕ) (from : ℕ) (ps bs rs : List ℕ) → Space ps bs rs → Front ps bs rs → Turn input from 0 from ps bs rs
-turn-none input from ps bs rs s f = record {
-  done = [];
-  split = refl;
-  count = refl;
-  low = omega arith;
-  holding = record {
-    parents = front-alone ps s.parents f.parents;
-    bursts = front-alone bs s.bursts f.bursts;
-    rates = front-alone rs s.rates f.rates;
-  };
-  kept = refl;
-  space = s;
-}
-
 -- some lines are listed line by line
 listed-some : (ls : List (List ℕ)) → 1 ≤ length ls → listed ls ≡ lines_from 1 ls
 unfolding listed
@@ -87,29 +55,34 @@ listed-some [] h = absurd (omega arith)
 listed-some (l ∷ ls) h = refl
 
 module _ (input : List ℕ) (from k at : ℕ) (ps bs rs : List ℕ) (t : Turn input from k at ps bs rs) where
-  -- no line is left
-  pub turn_end : line_at input at ≡ Nothing → ReadFrom (lines_behind input from) (list_end k) ps bs rs
-  unfolding lines_behind list_end broken_by listed lines_from first_broken
-  turn_end e = by k t.count t.kept
-    where
-      rest : lines (drop at input) ≡ []
-      rest = nothing-is-left input at e
+  module _ (e : line_at input at ≡ None) where
+    ended : lines_behind input at ≡ []
+    unfolding lines_behind
+    ended = nothing-is-left input at e
 
-      all : lines (drop from input) ≡ t.done
-      all = t.split ∙ rw rest (append-nil t.done)
+    all : lines_behind input from ≡ t.done
+    all = t.split ∙ rw ended (append-nil t.done)
 
-      none : (ls : List (List ℕ)) → length ls ≡ 0 → ls ≡ []
-      none [] z = refl
-      none (l ∷ ls) z = absurd (omega arith)
+    -- no line is left, and there was none
+    pub turn-none-left : k ≡ 0 → ReadFrom (lines_behind input from) (Err (InTree (NodeLine 1))) ps bs rs
+    unfolding listed first_broken
+    turn-none-left z = record { verdict = rw (all ∙ none t.done (t.count ∙ z)) refl; whole = tt }
+      where
+        none : (ls : List (List ℕ)) → length ls ≡ 0 → ls ≡ []
+        none [] z = refl
+        none (l ∷ ls) z = absurd (omega arith)
 
-      by : (j : ℕ) → length t.done ≡ j → verdict (lines_from 1 (lines (drop from input))) ≡ verdict (lines_from (suc j) (lines (drop at input))) → ReadFrom (lines (drop from input)) (list_end j) ps bs rs
-      by zero c v = let z : lines (drop from input) ≡ [] = all ∙ none t.done c in
-          record { verdict = rw z refl; whole = λ q. broken-kept (InTree (NodeLine 1)) q }
-      by (suc j) c v =
-          let l : listed (lines (drop from input)) ≡ lines_from 1 (lines (drop from input)) = listed-some (lines (drop from input)) (rw all (omega arith)) in
-          record { verdict = sym (ap verdict l ∙ v ∙ ap (λ (ls : List (List ℕ)). verdict (lines_from (suc (suc j)) ls)) rest); whole = λ q. record { count = rw all (sym c); holding = rw all t.holding } }
+    -- or some
+    pub turn-end : (k ≡ 0 → ⊥) → ReadFrom (lines_behind input from) (Ok k) ps bs rs
+    unfolding lines_from first_broken
+    turn-end n = record {
+      verdict =
+          let l : listed (lines_behind input from) ≡ lines_from 1 (lines_behind input from) = listed-some (lines_behind input from) (rw all (omega (arith, t.count, n))) in
+          sym (ap verdict l ∙ t.kept ∙ ap (λ (ls : List (List ℕ)). verdict (lines_from (suc k) ls)) ended);
+      whole = record { count = rw all (sym t.count); holding = rw all t.holding };
+    }
 
-  module _ (start end : ℕ) (next : Cursor) (e : line_at input at ≡ Found start end next) where
+  module _ (start end : ℕ) (next : Cursor) (e : line_at input at ≡ found start end next) where
     rest : lines_behind input at ≡ part_of input start end ∷ lines_behind input next.at
     unfolding lines_behind
     rest = (found-advances input at start end next e).first
@@ -138,38 +111,31 @@ module _ (input : List ℕ) (from k at : ℕ) (ps bs rs : List ℕ) (t : Turn in
     }
 
     -- and one that breaks one
-    pub turn-broken : (r : Count) (ps' bs' rs' : List ℕ) → line_right (k + 1) (part_of input start end) ≡ false → r ≡ broken_by (NodeLine (k + 1)) → ReadFrom (lines_behind input from) r ps' bs' rs'
-    unfolding lines_from first_broken broken_by
-    turn-broken r ps' bs' rs' w q =
+    pub turn-broken : (ps' bs' rs' : List ℕ) → line_right (k + 1) (part_of input start end) ≡ false → ReadFrom (lines_behind input from) (Err (InTree (NodeLine (k + 1)))) ps' bs' rs'
+    unfolding lines_from first_broken
+    turn-broken ps' bs' rs' w =
         let x : line_right (suc k) (part_of input start end) ≡ false = rw (add-one k) at w in
         let some : 1 ≤ length (lines_behind input from) = rw (t.split, rest, length-append t.done (part_of input start end ∷ lines_behind input next.at)) (omega arith) in
-        let v : verdict (lines_from (suc k) (lines_behind input at)) ≡ Broken (InTree (NodeLine (k + 1))) = rw (rest, x, add-one k) refl in
-        record {
-          verdict = ap (λ (l : Count). l.verdict) q ∙ sym (ap verdict (listed-some (lines_behind input from) some) ∙ t.kept ∙ v);
-          whole = λ z. broken-kept (InTree (NodeLine (k + 1))) (sym (ap (λ (l : Count). l.verdict) q) ∙ z);
-        }
+        let v : verdict (lines_from (suc k) (lines_behind input at)) ≡ Err (InTree (NodeLine (k + 1))) = rw (rest, x, add-one k) refl in
+        record { verdict = sym (ap verdict (listed-some (lines_behind input from) some) ∙ t.kept ∙ v); whole = tt }
 
 -- ---- the whole text
 
 -- a text without lines
-pub text-empty : (input : List ℕ) (r : Count) (ps bs rs : List ℕ) → line_at input 0 ≡ Nothing → r ≡ broken_by NodeNames → ReadList input r.verdict r.nodes ps bs rs
-unfolding named first_broken broken_by is_name_line name_line same ascii
-text-empty input r ps bs rs e q =
-    let z : lines input ≡ [] = nothing-is-left input 0 e in
-    record { verdict = ap (λ (l : Count). l.verdict) q ∙ rw z refl; whole = λ k. broken-kept (InTree NodeNames) (sym (ap (λ (l : Count). l.verdict) q) ∙ k) }
+pub text-empty : (input ps bs rs : List ℕ) → line_at input 0 ≡ None → ReadText input (Err (InTree NodeNames)) ps bs rs
+unfolding named first_broken is_name_line name_line same ascii
+text-empty input ps bs rs e = let z : lines input ≡ [] = nothing-is-left input 0 e in record { verdict = rw z refl; whole = tt }
 
-module _ (input : List ℕ) (start end : ℕ) (next : Cursor) (e : line_at input 0 ≡ Found start end next) where
-  all : lines input ≡ part_of input start end ∷ lines (drop next.at input)
-  all = (found-advances input 0 start end next e).first
+module _ (input : List ℕ) (start end : ℕ) (next : Cursor) (e : line_at input 0 ≡ found start end next) where
+  all-lines : lines input ≡ part_of input start end ∷ lines (drop next.at input)
+  all-lines = (found-advances input 0 start end next e).first
 
   -- names that differ
-  pub names-differ : (r : Count) (ps bs rs : List ℕ) → false ≡ is_name_line (part_of input start end) → r ≡ broken_by NodeNames → ReadList input r.verdict r.nodes ps bs rs
-  unfolding named first_broken broken_by
-  names-differ r ps bs rs w q =
-      record { verdict = ap (λ (l : Count). l.verdict) q ∙ rw (all, ← w) refl; whole = λ k. broken-kept (InTree NodeNames) (sym (ap (λ (l : Count). l.verdict) q) ∙ k) }
+  pub names-differ : (ps bs rs : List ℕ) → is_name_line (part_of input start end) ≡ false → ReadText input (Err (InTree NodeNames)) ps bs rs
+  unfolding named first_broken
+  names-differ ps bs rs w = record { verdict = rw (all-lines, w) refl; whole = tt }
 
   -- and the right ones
-  pub names-right : (r : Count) (ps bs rs : List ℕ) → true ≡ is_name_line (part_of input start end) → ReadFrom (lines_behind input next.at) r ps bs rs → ReadList input r.verdict r.nodes ps bs rs
+  pub names-right : (r : Result ℕ Refusal) (ps bs rs : List ℕ) → is_name_line (part_of input start end) ≡ true → ReadFrom (lines_behind input next.at) r ps bs rs → ReadText input r ps bs rs
   unfolding named first_broken lines_behind node_lines
-  names-right r ps bs rs w f =
-      record { verdict = f.verdict ∙ rw (all, ← w) refl; whole = λ k. rw all (f.whole k) }
+  names-right r ps bs rs w f = record { verdict = f.verdict ∙ rw (all-lines, w) refl; whole = rw all-lines f.whole }

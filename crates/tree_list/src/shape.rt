@@ -5,31 +5,21 @@ ghost use Rattle.tree_model.specs.Tree.{is_number, is_router};
 ghost use Rattle.tree_plan_model.specs.Inner.{shape};
 
 // Whether the sink is a router of the tree.
+#[tactic(auto, unfolding(tree_model::specs::Tree::is_number))]
 pub fn sink_right(parents: &[u8], sink: u64) -> bool
     ensures { result ≡ is_number (shape parents.now) sink && is_router (shape parents.now) sink }
 {
-    if sink < 1 {
-        return false;
-    }
-    if sink < parents.len() as u64 {
-        return is_router(parents, sink as usize);
-    }
-    false
+    (1..parents.len() as u64).contains(&sink) && is_router(parents, sink as usize)
 }
 
 // Whether a node is the root or has children.
+#[tactic(auto, unfolding(tree_model::specs::Tree::is_router))]
 fn is_router(parents: &[u8], v: usize) -> bool
     ensures { result ≡ is_router (shape parents.now) v }
 {
-    if v == 1 {
-        return true;
-    }
-    let mut w = 1;
-    while w < parents.len() {
-        if parents[w] as usize == v {
-            return true;
-        }
-        w += 1;
-    }
-    false
+    v == 1
+        || parents
+            .iter()
+            .skip(1)
+            .any(|parent| usize::from(*parent) == v)
 }

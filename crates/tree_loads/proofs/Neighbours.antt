@@ -1,6 +1,6 @@
 -- A node's neighbours along the child lists: the walk equals the gathering over all nodes. Assumes nothing.
-use mathlib.Core.Path.{◌≡◌, refl, sym, ◌∙◌}
-use mathlib.Core.Logic.{inl, inr, ⊎_elim}
+use mathlib.Core.Path.{◌≡◌, refl, ◌∙◌}
+use mathlib.Core.Logic.{inl, ⊎_elim}
 use mathlib.Core.Bool.{Bool, true, false, ◌||◌}
 use mathlib.Core.List.{List}
 use Prim.Native.Nat.{ℕ, zero, suc, ◌+◌, ◌-◌, ◌≤◌, ◌<◌}
@@ -30,35 +30,7 @@ module _ (ps : List ℕ) (p : Rooted (shape ps)) (v : ℕ) (one : 1 ≤ v) (h : 
   higher : (u : ℕ) → 1 ≤ u → u < length ps → get_or ps u 0 ≡ v → v < u
   higher u a b e = omega (arith, p.smaller u a (omega arith), e)
 
-  -- behind a child
-  pub after-child : (k c : ℕ) → v < k → k < length ps → Beside ps v k → Least ps (get_or ps k 0) k c → Nearest ps v k c
-  after-child k c l hk b m =
-      record {
-        behind = m.behind;
-        known = m.known;
-        beside = λ x. inl (m.child x ∙ e);
-        some = λ u a q s. m.some u a q (side u a s ∙ sym e);
-        least = λ u a q s. m.least u a q (side u a s ∙ sym e);
-      }
-    where
-      e : get_or ps k 0 ≡ v
-      e = ⊎_elim (λ x. x) (λ x. absurd (omega (arith, own))) b
-
-      side : (u : ℕ) → k < u → Beside ps v u → get_or ps u 0 ≡ v
-      side u a s = ⊎_elim (λ x. x) (λ x. absurd (omega (arith, own))) s
-
-  -- the parent is the first
-  pub parent-first : (c : ℕ) → c ≡ get_or ps v 0 → 1 ≤ c → Nearest ps v 0 c
-  parent-first c e one-c =
-      record {
-        behind = λ x. x;
-        known = λ x. omega (arith, own);
-        beside = λ x. inr (sym e);
-        some = λ u a q s. one-c;
-        least = λ u a q s. ⊎_elim (λ x. omega (arith, own, higher u a q x)) (λ x. omega (arith, e, x)) s;
-      }
-
-  -- then the children
+  -- behind the parent: the first child
   pub children-next : (k c : ℕ) → k ≤ v → (1 ≤ k → Beside ps v k) → (k ≡ 0 → get_or ps v 0 ≡ 0) → Least ps v 0 c → Nearest ps v k c
   children-next k c l b z m =
       record {
@@ -129,11 +101,6 @@ module _ (ps : List ℕ) (v k c : ℕ) (m : Nearest ps v k c) where
       by : Dec (1 ≤ c) → c < length ps
       by (yes h) = m.known h
       by (no h) = omega arith
-
-pub left-falls : (ps : List ℕ) (v k c : ℕ) → Nearest ps v k c → 1 ≤ k → k < length ps → left (length ps) c < left (length ps) k
-left-falls ps v zero c m one h = absurd (omega arith)
-left-falls ps v (suc k) zero m one h = omega arith
-left-falls ps v (suc k) (suc c) m one h = omega (arith, m.behind (omega arith), m.known (omega arith))
 
 module _ (ps bs rs : List ℕ) (v from : ℕ) (a : Timing) (p : Rooted (tree_of ps bs rs)) (f : Facing (tree_of ps bs rs) v from) (ns : List ℕ) where
   abbrev To : Load → List ℕ → ℕ → Type 0

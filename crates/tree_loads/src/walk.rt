@@ -95,12 +95,13 @@ fn sensor_load(t: Timing, own: u8, rate: u32) -> Load
     ensures { result ≡ load rate (burst (frames own) t.interval).0 }
 {
     Load {
-        rate: Rate(rate as u64),
-        burst: burst_of(Frames(own as u64), t.interval),
+        rate: Rate(u64::from(rate)),
+        burst: burst_of(Frames(u64::from(own)), t.interval),
     }
 }
 
 // The neighbour of v with the least number behind k, which is a neighbour of v or 0; 0 where there is none.
+// Stays as it is: 0 is no node's number in the tables and in the definitions too, so an option would be made here only to be undone.
 fn neighbour_after(nodes: usize, kin: &[u8; 768], v: usize, k: usize) -> usize
     requires kin_len_bound { length (take (nodes + 1) kin.now) ≤ 255 }
     requires rooted { Rooted (shape (take (nodes + 1) kin.now)) }
@@ -111,22 +112,12 @@ fn neighbour_after(nodes: usize, kin: &[u8; 768], v: usize, k: usize) -> usize
     requires beside { 1 ≤ k → Beside (take (nodes + 1) kin.now) v k }
     ensures { Nearest (take (nodes + 1) kin.now) v k result }
 {
+    let parent = usize::from(kin[v]);
     if v < k {
-        return wide(kin[512 + k]);
+        usize::from(kin[512 + k])
+    } else if k == 0 && 0 < parent {
+        parent
+    } else {
+        usize::from(kin[256 + v])
     }
-    if 0 < k {
-        return wide(kin[256 + v]);
-    }
-    let parent = wide(kin[v]);
-    if 0 < parent {
-        return parent;
-    }
-    wide(kin[256 + v])
-}
-
-// A node's number.
-fn wide(number: u8) -> usize
-    ensures { result ≡ number }
-{
-    number as usize
 }

@@ -1,3 +1,3 @@
 -- Proofs of the plans of surveyed trees. Assumes nothing.
--- what is decided, printed
+-- what is decided, as lines of a table
 pub mod Printing

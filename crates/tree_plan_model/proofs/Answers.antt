@@ -1,4 +1,5 @@
 -- Number 10, then 3, 4 and 6: the answer to each part, and what holds where it is kept. Assumes nothing.
+use Rattle.std.specs.Prelude.{Ok, Err}
 use mathlib.Core.Path.{◌≡◌, sym, ap, ◌∙◌}
 use mathlib.Core.Bool.{true, false, ◌&&◌, and-eq-true_iff}
 use mathlib.Core.List.{List, ◌++◌}
@@ -10,9 +11,8 @@ use borrow.Author.Tests.{leb-true, not-false}
 use Rattle.refusals.specs.declared.Refusal.{Refusal}
 use Rattle.refusals.specs.declared.Refusal.TheVariants.{Superframes, InTree}
 use Rattle.refusals.specs.declared.TreeRefusal.TheVariants.{SinkNode}
-use Rattle.refusals.specs.declared.Verdict.TheVariants.{Kept, Broken}
-use Rattle.refusals.specs.Conditions.{Unbroken, first_broken}
-use Rattle.refusals.proofs.Answering.{verdict, first-part-answers, second-part-answers}
+use Rattle.refusals.specs.Conditions.{Unbroken, first_broken, verdict}
+use Rattle.refusals.proofs.Answering.{first-part-answers, second-part-answers}
 use Rattle.refusals.proofs.Unbroken.{kept-unbroken, unbroken-left, unbroken-right}
 use Rattle.settings_model.specs.declared.Radio.{Radio}
 use Rattle.settings_model.specs.Checks.{radio_checks}
@@ -32,45 +32,45 @@ use Rattle.tree_plan_model.specs.Lists.{Whole}
 
 -- ---- the sink's condition, 3, 4 and 6
 
-pub routers-over : (b : Radio) (t : Tree) (n k : ℕ) → n ≡ routers t → k ≡ 2 ^ (b.bo - b.so) → k < n → Broken (Superframes n k) ≡ verdict (routers_fit b t)
+pub routers-over : (b : Radio) (t : Tree) (n k : ℕ) → n ≡ routers t → k ≡ 2 ^ (b.bo - b.so) → k < n → Err (Superframes n k) ≡ verdict (routers_fit b t)
 unfolding routers_fit superframes
 routers-over b t n k en ek h = rw (sym en, sym ek) (over-limit k n (Superframes n k) h)
 
-pub routers-in : (b : Radio) (t : Tree) (n k : ℕ) → n ≡ routers t → k ≡ 2 ^ (b.bo - b.so) → n ≤ k → Kept ≡ verdict (routers_fit b t)
+pub routers-in : (b : Radio) (t : Tree) (n k : ℕ) → n ≡ routers t → k ≡ 2 ^ (b.bo - b.so) → n ≤ k → (Ok tt) ≡ verdict (routers_fit b t)
 unfolding routers_fit superframes
 routers-in b t n k en ek h = rw (sym en, sym ek) (in-limit k n (Superframes n k) h)
 
-pub sink-kept : (t : Tree) (sink : ℕ) → true ≡ (is_number t sink && is_router t sink) → verdict (sink_right t sink) ≡ Kept
+pub sink-kept : (t : Tree) (sink : ℕ) → true ≡ (is_number t sink && is_router t sink) → verdict (sink_right t sink) ≡ Ok tt
 unfolding sink_right first_broken
 sink-kept t sink e = rw (sym e)
 
-pub sink-broken : (t : Tree) (sink : ℕ) → false ≡ (is_number t sink && is_router t sink) → verdict (sink_right t sink) ≡ Broken (InTree SinkNode)
+pub sink-broken : (t : Tree) (sink : ℕ) → false ≡ (is_number t sink && is_router t sink) → verdict (sink_right t sink) ≡ Err (InTree SinkNode)
 unfolding sink_right first_broken
 sink-broken t sink e = rw (sym e)
 
 module _ (b : Radio) (t : Tree) (sink : ℕ) where
-  pub sink-first : false ≡ (is_number t sink && is_router t sink) → Broken (InTree SinkNode) ≡ verdict (checks_before_slots b t sink)
+  pub sink-first : false ≡ (is_number t sink && is_router t sink) → Err (InTree SinkNode) ≡ verdict (checks_before_slots b t sink)
   unfolding checks_before_slots
   sink-first e =
-      first-part-answers Broken Kept (sink_right t sink ++ radio_checks b) (routers_fit b t) (InTree SinkNode)
-      (sym (first-part-answers Broken Kept (sink_right t sink) (radio_checks b) (InTree SinkNode) (sink-broken t sink e)))
+      first-part-answers Err (Ok tt) (sink_right t sink ++ radio_checks b) (routers_fit b t) (InTree SinkNode)
+      (sym (first-part-answers Err (Ok tt) (sink_right t sink) (radio_checks b) (InTree SinkNode) (sink-broken t sink e)))
 
   module _ (e : true ≡ (is_number t sink && is_router t sink)) where
-    pub three-four-next : (r : Refusal) → verdict (radio_checks b) ≡ Broken r → Broken r ≡ verdict (checks_before_slots b t sink)
+    pub three-four-next : (r : Refusal) → verdict (radio_checks b) ≡ Err r → Err r ≡ verdict (checks_before_slots b t sink)
     unfolding checks_before_slots
     three-four-next r q =
-        first-part-answers Broken Kept (sink_right t sink ++ radio_checks b) (routers_fit b t) r (sym (second-part-answers Broken Kept (sink_right t sink) (radio_checks b) (sink-kept t sink e)) ∙ q)
+        first-part-answers Err (Ok tt) (sink_right t sink ++ radio_checks b) (routers_fit b t) r (sym (second-part-answers Err (Ok tt) (sink_right t sink) (radio_checks b) (sink-kept t sink e)) ∙ q)
 
-    pub six-next : verdict (radio_checks b) ≡ Kept → verdict (routers_fit b t) ≡ verdict (checks_before_slots b t sink)
+    pub six-next : verdict (radio_checks b) ≡ Ok tt → verdict (routers_fit b t) ≡ verdict (checks_before_slots b t sink)
     unfolding checks_before_slots
     six-next k =
-        second-part-answers Broken Kept (sink_right t sink ++ radio_checks b) (routers_fit b t) (sym (second-part-answers Broken Kept (sink_right t sink) (radio_checks b) (sink-kept t sink e)) ∙ k)
+        second-part-answers Err (Ok tt) (sink_right t sink ++ radio_checks b) (routers_fit b t) (sym (second-part-answers Err (Ok tt) (sink_right t sink) (radio_checks b) (sink-kept t sink e)) ∙ k)
 
   -- what holds where none of these is broken
-  pub kept-checked : verdict (radio_checks b) ≡ Kept → CheckedRadio b
+  pub kept-checked : verdict (radio_checks b) ≡ Ok tt → CheckedRadio b
   kept-checked k = (unbroken-where-radio-checked b).0 (kept-unbroken (radio_checks b) k)
 
-  module _ (k : verdict (checks_before_slots b t sink) ≡ Kept) where
+  module _ (k : verdict (checks_before_slots b t sink) ≡ Ok tt) where
     front : Unbroken (sink_right t sink ++ radio_checks b)
     unfolding checks_before_slots
     front = unbroken-left (sink_right t sink ++ radio_checks b) (routers_fit b t) (kept-unbroken (checks_before_slots b t sink) k)
@@ -88,16 +88,16 @@ module _ (b : Radio) (t : Tree) (sink : ℕ) where
 
 -- number 10 alone
 module _ (input : List ℕ) (sink : ℕ) where
-  pub list-broken : (r : Refusal) → verdict (named input ++ listed (node_lines input)) ≡ Broken r → Broken r ≡ verdict (surveyed input sink)
+  pub list-broken : (r : Refusal) → verdict (named input ++ listed (node_lines input)) ≡ Err r → Err r ≡ verdict (surveyed input sink)
   unfolding surveyed
-  list-broken r e = first-part-answers Broken Kept (named input ++ listed (node_lines input)) (sink_right (tree_in input) sink) r e
+  list-broken r e = first-part-answers Err (Ok tt) (named input ++ listed (node_lines input)) (sink_right (tree_in input) sink) r e
 
-  pub list-kept : verdict (named input ++ listed (node_lines input)) ≡ Kept → verdict (sink_right (tree_in input) sink) ≡ verdict (surveyed input sink)
+  pub list-kept : verdict (named input ++ listed (node_lines input)) ≡ Ok tt → verdict (sink_right (tree_in input) sink) ≡ verdict (surveyed input sink)
   unfolding surveyed
-  list-kept e = second-part-answers Broken Kept (named input ++ listed (node_lines input)) (sink_right (tree_in input) sink) e
+  list-kept e = second-part-answers Err (Ok tt) (named input ++ listed (node_lines input)) (sink_right (tree_in input) sink) e
 
 -- the lists of a text that keeps number 10 but for the sink
-module _ (input : List ℕ) (k : verdict (named input ++ listed (node_lines input)) ≡ Kept) (n : ℕ) (ps bs rs : List ℕ) (w : Whole (node_lines input) n ps bs rs) where
+module _ (input : List ℕ) (k : verdict (named input ++ listed (node_lines input)) ≡ Ok tt) (n : ℕ) (ps bs rs : List ℕ) (w : Whole (node_lines input) n ps bs rs) where
   kept : (1 ≤ length (node_lines input)) × Unbroken (lines_from 1 (node_lines input))
   kept = kept-lines (node_lines input) (unbroken-right (named input) (listed (node_lines input)) (kept-unbroken (named input ++ listed (node_lines input)) k))
 

@@ -3,7 +3,7 @@
 pub mod Shaped
 -- the conditions, part after part
 pub mod Answers
--- notes, read and put
+-- notes, read
 pub mod Noting
 -- a tree and its tables
 pub mod Tabled

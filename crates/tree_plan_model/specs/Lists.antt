@@ -1,15 +1,13 @@
 -- What reading a list answers, and what its inner functions require of one another. Assumes nothing: these are definitions.
-use Rattle.std.specs.Prelude.{◌≡◌, Bool, true, List, ◌∷◌, ◌++◌, map, ℕ, zero, suc, length, get_or, take, drop, set}
+use Rattle.refusals.specs.declared.Refusal.{Refusal}
+use Rattle.std.specs.Prelude.{◌≡◌, Bool, true, List, ◌∷◌, ◌++◌, map, ℕ, zero, suc, length, get_or, take, drop, set, Result, IfOk}
 use Rattle.lines.specs.Text.{lines}
 use Rattle.refusals.specs.declared.Refusal.TheVariants.{InTree}
 use Rattle.refusals.specs.declared.TreeRefusal.{TreeRefusal}
 use Rattle.refusals.specs.declared.TreeRefusal.TheVariants.{NodeLine}
-use Rattle.refusals.specs.declared.Verdict.TheVariants.{Kept, Broken}
-use Rattle.refusals.specs.Conditions.{first_broken}
+use Rattle.refusals.specs.Conditions.{verdict, verdict_of}
 use Rattle.tree_read_model.specs.Entries.{entry_in, line_right}
 use Rattle.tree_read_model.specs.Survey.{node_lines, parent_in, burst_in, rate_in, named, listed}
-use Rattle.refusals.specs.declared.Verdict.{Verdict}
-use Rattle.tree_plan_model.specs.declared.Count.{Count}
 
 -- three lists for 254 nodes and entry 0
 pub record Space (ps bs rs : List ℕ) : Type 0 where
@@ -41,24 +39,16 @@ pub record Whole (ls : List (List ℕ)) (n : ℕ) (ps bs rs : List ℕ) : Type 0
   pub count : n ≡ length ls
   pub holding : Holding ls ps bs rs
 
--- node lines as they were read
-pub record ReadFrom (ls : List (List ℕ)) (r : Count) (ps bs rs : List ℕ) : Type 0 where
-  pub verdict : r.verdict ≡ first_broken Broken Kept (listed ls)
-  pub whole : r.verdict ≡ Kept → Whole ls r.nodes ps bs rs
+-- node lines as they were read: how many they are, or the refusal
+pub record ReadFrom (ls : List (List ℕ)) (r : Result ℕ Refusal) (ps bs rs : List ℕ) : Type 0 where
+  pub verdict : verdict_of r ≡ verdict (listed ls)
+  pub whole : IfOk r (λ n. Whole ls n ps bs rs)
 
 -- and a text
-pub record ReadList (input : List ℕ) (v : Verdict) (n : ℕ) (ps bs rs : List ℕ) : Type 0 where
-  pub verdict : v ≡ first_broken Broken Kept (named input ++ listed (node_lines input))
-  pub whole : v ≡ Kept → Whole (node_lines input) n ps bs rs
+pub record ReadText (input : List ℕ) (r : Result ℕ Refusal) (ps bs rs : List ℕ) : Type 0 where
+  pub verdict : verdict_of r ≡ verdict (named input ++ listed (node_lines input))
+  pub whole : IfOk r (λ n. Whole (node_lines input) n ps bs rs)
 
 -- the lines of a text from a position on
 unfoldable pub lines_behind : List ℕ → ℕ → List (List ℕ)
 lines_behind input at = lines (drop at input)
-
--- a list that breaks a rule, and the end of one that breaks none so far
-unfoldable pub broken_by : TreeRefusal → Count
-broken_by r = record { verdict = Broken (InTree r); nodes = 0 }
-
-unfoldable pub list_end : ℕ → Count
-list_end zero = broken_by (NodeLine 1)
-list_end (suc k) = record { verdict = Kept; nodes = suc k }

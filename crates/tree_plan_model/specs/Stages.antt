@@ -1,10 +1,8 @@
 -- What the stages from a text to its plan's numbers answer: the verdict on more and more conditions, and what lent tables hold then. Assumes
 -- nothing: these are definitions.
-use Rattle.std.specs.Prelude.{◌≡◌, List, ◌∷◌, ◌++◌, map, ℕ, suc, ◌≤◌, take}
+use Rattle.std.specs.Prelude.{◌≡◌, List, ◌∷◌, ◌++◌, map, ℕ, suc, ◌≤◌, take, Result, Ok, Err, IfOk, ⊤}
 use Rattle.refusals.specs.declared.Refusal.{Refusal}
-use Rattle.refusals.specs.declared.Verdict.{Verdict}
-use Rattle.refusals.specs.declared.Verdict.TheVariants.{Kept, Broken}
-use Rattle.refusals.specs.Conditions.{Condition, first_broken}
+use Rattle.refusals.specs.Conditions.{Condition, verdict}
 use Rattle.settings_model.specs.declared.Radio.{Radio}
 use Rattle.settings_model.specs.Checks.{radio_checks}
 use Rattle.settings_model.specs.Laws.{CheckedRadio}
@@ -50,13 +48,15 @@ pub record LoadsHeld (input : List ℕ) (b : Radio) (sink n : ℕ) (ks ns : List
   pub linked : Linked (parents_in input) ks
   pub right : AllRight (timing_of b) (tree_in input) sink ns
 
--- by the verdict on these: where they are kept, notes are made, also where 5 or 7 refuses the tree; else every number is as it was
-pub record LoadsLeft (input : List ℕ) (b : Radio) (sink : ℕ) (r : Stage) (ns ns' : List ℕ) : Type 0 where
-  pub kept : first_broken Broken Kept (conditions_before_slots input b sink) ≡ Kept → LoadsHeld input b sink r.nodes r.kin ns'
-  pub refused : (x : Refusal) → first_broken Broken Kept (conditions_before_slots input b sink) ≡ Broken x → ns' ≡ ns
+-- A stage's nodes and kin are the list's. By the verdict on these conditions: where they are kept, notes are made, also where 5 or 7
+-- refuses the tree; else every number is as it was.
+pub record LoadsLeft (input : List ℕ) (b : Radio) (sink : ℕ) (r : Result Stage Refusal) (ns ns' : List ℕ) : Type 0 where
+  pub held : IfOk r (λ s. LoadsHeld input b sink s.nodes s.kin ns')
+  pub kept : verdict (conditions_before_slots input b sink) ≡ Ok tt → AllRight (timing_of b) (tree_in input) sink ns'
+  pub refused : (x : Refusal) → verdict (conditions_before_slots input b sink) ≡ Err x → ns' ≡ ns
 
 -- by the verdict on all: where they are kept, the depths and the ways' delays stand in two tables more; else every number is as it was
-pub record WaysLeft (input : List ℕ) (b : Radio) (sink : ℕ) (v : Verdict) (ns' hs hs' ws ws' : List ℕ) : Type 0 where
-  pub depths : v ≡ Kept → DepthsSet (parents_in input) hs'
-  pub ways : v ≡ Kept → WaysSet (timing_of b) (parents_in input) ns' sink ws'
-  pub refused : (x : Refusal) → v ≡ Broken x → (hs' ≡ hs) × (ws' ≡ ws)
+pub record WaysLeft (input : List ℕ) (b : Radio) (sink : ℕ) (v : Result ⊤ Refusal) (ns' hs hs' ws ws' : List ℕ) : Type 0 where
+  pub depths : v ≡ Ok tt → DepthsSet (parents_in input) hs'
+  pub ways : v ≡ Ok tt → WaysSet (timing_of b) (parents_in input) ns' sink ws'
+  pub refused : (x : Refusal) → v ≡ Err x → (hs' ≡ hs) × (ws' ≡ ws)

@@ -2,31 +2,22 @@
 // and laws, and no function. Crates tree_list, tree_children, tree_loads, tree_slots, tree_ways and tree_decide answer them.
 #![tactic(auto)]
 
-use refusals::Verdict;
+use refusals::Refusal;
 
-// How far node lines were read: whether they keep number 10's rules, and how many nodes they have.
-#[derive(Clone, Copy)]
-pub struct Count {
-    pub verdict: Verdict,
-    pub nodes: usize,
-}
-
-// What reading a list comes to: whether it keeps number 10 but for the sink, how many nodes it has, and of each, at its number, its parent
-// and the BURST and RATE of its sensor.
+// What a list that keeps number 10 but for the sink comes to: how many nodes it has, and of each, at its number, its parent and the BURST and
+// RATE of its sensor.
 #[derive(Clone, Copy)]
 pub struct Listed {
-    pub verdict: Verdict,
     pub nodes: usize,
     pub parents: [u8; 255],
     pub bursts: [u8; 255],
     pub rates: [u32; 255],
 }
 
-// What a stage comes to: the verdict on the conditions up to it, how many nodes the list has, and each node's kin, in three parts of 256
+// What a stage comes to where the conditions up to it are kept: how many nodes the list has, and each node's kin, in three parts of 256
 // numbers: its parent, its first child and its next sibling, each 0 where it has none.
 #[derive(Clone, Copy)]
 pub struct Stage {
-    pub verdict: Verdict,
     pub nodes: usize,
     pub kin: [u8; 768],
 }

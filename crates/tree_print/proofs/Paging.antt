@@ -1,14 +1,14 @@
--- The text of a table's lines, one behind another: the laws of any sort of line, of a surveyed tree's. Assumes nothing.
-use mathlib.Core.Path.{◌≡◌, refl}
-use mathlib.Core.List.{List, [], ◌∷◌, ◌++◌, map}
+-- The text of a table's first lines, with none and with one more. Assumes nothing.
+use mathlib.Core.Path.{◌≡◌, refl, sym}
+use mathlib.Core.List.{List, [], ◌∷◌, ◌++◌, append_assoc, map}
 use Prim.Native.Nat.{ℕ, ◌+◌, ◌*◌, ◌<◌, min}
 use native.Mathlib.Omega.{arith}
-use lib.ListN.{length}
+use lib.ListN.{length, length-append}
 use lib.Seq.{sets}
 use Rattle.decimal_model.specs.Ascii.{ascii}
 use Rattle.lines.specs.Text.{ended}
 use Rattle.network.specs.Counting.{join}
-use Rattle.buffer.proofs.Behind.{Put}
+use Rattle.buffer.proofs.Putting.{sets-sets}
 use Rattle.plan_model.specs.declared.NodeLine.{NodeLine}
 use Rattle.report_model.specs.TreeText.{tree_header, node_text, tree_text}
 use Rattle.report_model.proofs.Paging as paging
@@ -16,36 +16,37 @@ use Rattle.line_table_model.specs.Rows.{rows_in}
 use Rattle.node_table_model.specs.NodeRows.{node_in, nodes_in}
 use Rattle.node_table_model.proofs.NodeLaws.{nodes-more}
 
--- the header line's length
-header-length : length (tree_header ++ 10 ∷ []) ≡ 62
+none : (ns : List ℕ) → nodes_in ns 0 ≡ []
+unfolding rows_in join
+none ns = refl
+
+-- of no line: the header line and its LF
+pub text_none : (ns : List ℕ) → tree_text (nodes_in ns 0) ≡ tree_header ++ 10 ∷ []
+unfolding tree_text ended
+text_none ns = rw (none ns)
+
+pub length_none : (ns : List ℕ) → length (tree_text (nodes_in ns 0)) ≡ 62
 unfolding tree_header ascii
-header-length = refl
+length_none ns = rw (text_none ns)
 
-module _ (ns : List ℕ) where
-  none : nodes_in ns 0 ≡ []
-  unfolding rows_in join
-  none = refl
+-- of one line more: its text and its LF behind those before it
+pub text_more : (ns : List ℕ) (n : ℕ) → n < 254
+    → tree_text (nodes_in ns (n + 1)) ≡ tree_text (nodes_in ns n) ++ (node_text (node_in ns (10 * min n 254)) ++ 10 ∷ [])
+unfolding tree_text ended
+text_more ns n h =
+    let q : min n 254 ≡ n = omega arith in
+    let at : ℕ → NodeLine = λ k. node_in ns (10 * k) in
+    let t : List ℕ = node_text (at n) ++ 10 ∷ [] in
+    rw (q, paging.behind_more tree_header node_text (nodes_in ns) at (none ns) (nodes-more ns) n (at n) refl)
+    (sym (append_assoc tree_header (10 ∷ ended (map node_text (nodes_in ns n))) t))
 
-  abbrev at : ℕ → NodeLine
-  at n = node_in ns (10 * n)
+pub length_more : (ns : List ℕ) (n : ℕ) → n < 254
+    → length (tree_text (nodes_in ns (n + 1))) ≡ length (tree_text (nodes_in ns n)) + length (node_text (node_in ns (10 * min n 254)) ++ 10 ∷ [])
+length_more ns n h = rw (text_more ns n h) (length-append (tree_text (nodes_in ns n)) _)
 
-  -- the text of the first n lines, behind the header line
-  abbrev pub behind : ℕ → List ℕ
-  behind n = ended (map node_text (nodes_in ns n))
+-- a text put behind the one at the front
+pub put_more : (e t u : List ℕ) → sets (sets e 0 t) (length t) u ≡ sets e 0 (t ++ u)
+put_more e t u = let q : length t ≡ 0 + length t = omega arith in rw q (sets-sets e 0 t u)
 
-  pub behind-none : behind 0 ≡ []
-  behind-none = paging.behind-none tree_header node_text (nodes_in ns) at none (nodes-more ns)
-
-  -- and of one more
-  pub behind_more : (n : ℕ) (l : NodeLine) → n < 254 → l ≡ node_in ns (10 * min n 254) → behind (n + 1) ≡ behind n ++ (node_text l ++ 10 ∷ [])
-  behind_more n l h e =
-      let q : min n 254 ≡ n = omega arith in
-      paging.behind_more tree_header node_text (nodes_in ns) at none (nodes-more ns) n l (rw q at e)
-
-  pub text-length : (n : ℕ) → length (tree_text (nodes_in ns n)) ≡ 62 + length (behind n)
-  unfolding tree_text
-  text-length n = paging.text-length tree_header node_text (nodes_in ns) at none (nodes-more ns) 62 header-length n
-
-  pub text-put : {e out out' : List ℕ} {end : ℕ} (n : ℕ) → out ≡ sets e 0 (tree_header ++ 10 ∷ []) → Put out 62 (behind n) out' end → Put e 0 (tree_text (nodes_in ns n)) out' end
-  unfolding tree_text
-  text-put n h p = paging.text-put tree_header node_text (nodes_in ns) at none (nodes-more ns) 62 header-length n h p
+-- all that a loop over the lines asks for
+pub ruleset line_by_line = (text_none, length_none, text_more, length_more, put_more)

@@ -9,12 +9,12 @@ use Rattle.tree_read_model.proofs.Computing.{lists}
 use Rattle.report_model.specs.Text.{numbers, refusal_text}
 use Rattle.report_model.specs.TreeText.{tree_header, node_text, tree_text}
 use Rattle.program_model.specs.Printed.{printed, too_long}
-use Rattle.tree_program_model.specs.Output.{value_of, is_unreadable, loss_in, arguments_read, radio_of, sink_of, argument_conditions, call_outcome, tree_output}
+use Rattle.tree_program_model.specs.Output.{loss_in, arguments_read, radio_of, sink_of, argument_conditions, call_outcome, tree_output}
 use Rattle.tree_program_model.specs.Examples.{argument_at, arguments_in, balanced_list, common, broken_list, examples, ours, ExamplesHold}
 
 -- to unfold `outputs` is to unfold all that an output is computed with
 outputs : Type 0
-unfolding lists digits_by decimal number_in joined ended tabled letter numbers refusal_text tree_header node_text tree_text too_long value_of is_unreadable loss_in arguments_read radio_of sink_of argument_conditions call_outcome printed tree_output argument_at arguments_in
+unfolding lists digits_by decimal number_in joined ended tabled letter numbers refusal_text tree_header node_text tree_text too_long loss_in arguments_read radio_of sink_of argument_conditions call_outcome printed tree_output argument_at arguments_in
 outputs = Unit
 
 pub examples-hold : ExamplesHold

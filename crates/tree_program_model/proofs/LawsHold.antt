@@ -1,10 +1,10 @@
 -- What holds of what is printed. Assumes nothing.
 use mathlib.Core.Path.{◌≡◌, refl, ap, sym, ◌∙◌}
 use mathlib.Core.List.{List, ◌++◌}
-use Prim.Native.Nat.{ℕ}
+use Prim.Native.Nat.{ℕ, ◌<◌}
 use native.Mathlib.Omega.{arith}
 use borrow.Author.Tests.{le-ltb}
-use lib.ListN.{get_or}
+use lib.ListN.{length, get_or, length-append}
 use Rattle.decimal_model.specs.Ascii.{ascii}
 use Rattle.decimal_model.specs.Decimal.{digits_by, decimal}
 use Rattle.lines.specs.Text.{joined, ended}
@@ -26,20 +26,25 @@ use Rattle.report_model.specs.TreeText.{tree_header, tree_text}
 use Rattle.report_model.proofs.OneTreeText.{one-text-for-trees}
 use Rattle.program_model.specs.Printed.{printed, too_long}
 use Rattle.settings_model.specs.declared.Radio.{Radio}
+use Rattle.tree_program_model.specs.declared.Arguments.{Arguments}
 use Rattle.tree_program_model.specs.Output.{loss_in, arguments_read, radio_of, sink_of, argument_conditions, call_outcome, tree_output}
 use Rattle.tree_program_model.specs.Laws.{NotGivenIsZero, LongInputs, TenBeforeTwo, ReadArguments, PrintedLinesKeep}
-use Rattle.tree_program_model.proofs.Outputs.{too_long_lem, ten-broken, call-planned, output-refused}
+use Rattle.tree_program_model.proofs.Outputs.{too_long_lem, ten-broken, call_planned, output-refused}
 
 pub long-inputs : LongInputs
 unfolding refusal_text tabled digits_by decimal joined ended ascii
 long-inputs a input h = sym (output-refused a input InputTooLong (sym (too_long_lem a input h)))
+
+-- what stands behind 65,537 bytes decides nothing
+pub long-front : (a : Arguments) (front rest : List ℕ) → 65536 < length front → tree_output a (front ++ rest) ≡ tree_output a front
+long-front a front rest h = long-inputs a (front ++ rest) (omega (arith, length-append front rest)) ∙ sym (long-inputs a front h)
 
 pub ten-before-two : TenBeforeTwo
 ten-before-two a input r h e = sym (output-refused a input r (sym (ten-broken a input h r e)))
 
 pub read-arguments : ReadArguments
 unfolding tree_output
-read-arguments a input h k = ap (printed tree_text) (sym (call-planned a input h k))
+read-arguments a input h k = ap (printed tree_text) (call_planned a input h k)
 
 -- no refusal is printed as a plan is
 no_text : (r : Refusal) (p : List NodeLine) → refusal_text r ≡ tree_text p → ⊥

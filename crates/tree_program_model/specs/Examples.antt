@@ -1,17 +1,16 @@
 -- P1 and P2 as node lists (document 02, E3), and the order of refusals, from words and bytes to bytes, in one table: the arguments, the
 -- lines on standard input, and what is printed for them. Assumes nothing: these are definitions and statements; proofs/ExamplesHold proves
 -- them.
-use Rattle.std.specs.Prelude.{◌≡◌, List, [], ◌∷◌, map, ℕ, length, get_or}
+use Rattle.std.specs.Prelude.{◌≡◌, List, [], ◌∷◌, map, ℕ, length, get_or, Option}
 use Prim.Native.String.{String}
 use Rattle.decimal_model.specs.Ascii.{ascii}
-use Rattle.decimal_model.specs.declared.Number.{Number}
 use Rattle.decimal_model.specs.Number.{number_in}
 use Rattle.lines.specs.Text.{ended}
 use Rattle.tree_program_model.specs.declared.Arguments.{Arguments}
 use Rattle.tree_program_model.specs.Output.{tree_output}
 
 -- the argument at a position; a missing one is as an empty one
-unfoldable pub argument_at : List String → ℕ → Number
+unfoldable pub argument_at : List String → ℕ → Option ℕ
 argument_at words i = number_in (ascii (get_or words i ""))
 
 -- the arguments that words are read as: BO SO HEAD DATA ACK SINK LOSS

@@ -5,5 +5,3 @@ pub mod Output
 pub mod Examples
 -- what holds of it
 pub mod Laws
--- what is answered before the list is decided on
-pub mod Inner

@@ -1,7 +1,5 @@
 -- What program `plan_tree` prints for its arguments and its input (document 02, E3 and E5). Assumes nothing: these are definitions.
-use Rattle.std.specs.Prelude.{ℕ, Bool, true, false, cond, ltb, List, [], ◌∷◌, ◌++◌}
-use Rattle.decimal_model.specs.declared.Number.{Number}
-use Rattle.decimal_model.specs.declared.Number.TheVariants as number
+use Rattle.std.specs.Prelude.{ℕ, cond, ltb, List, [], ◌∷◌, ◌++◌, Option, Some, is_none, unwrap_or}
 use Rattle.refusals.specs.declared.Refusal.{Refusal}
 use Rattle.refusals.specs.declared.Refusal.TheVariants.{Unreadable, TextAfter}
 use Rattle.refusals.specs.Conditions.{Condition, condition, first_broken}
@@ -17,21 +15,16 @@ use Rattle.program_model.specs.Printed.{printed, too_long}
 use Rattle.tree_program_model.specs.declared.Arguments.{Arguments}
 
 -- the value of an argument; 0 where it is missing or no number
-unfoldable pub value_of : Number → ℕ
-value_of (number.Value v) = v
-value_of number.Unreadable = 0
-
-unfoldable pub is_unreadable : Number → Bool
-is_unreadable (number.Value v) = false
-is_unreadable number.Unreadable = true
+abbrev pub value_of : Option ℕ → ℕ
+value_of n = unwrap_or n 0
 
 -- LOSS, a seventh argument: 0 where it is not given
-unfoldable pub loss_in : Arguments → Number
-loss_in a = cond (ltb 6 a.count) a.loss (number.Value 0)
+unfoldable pub loss_in : Arguments → Option ℕ
+loss_in a = cond (ltb 6 a.count) a.loss (Some 0)
 
 -- number 2: "value unreadable or missing", at document 01's columns, as 3 and 4 have them; "text after the last", one argument more
-abbrev pub unread : Number → ℕ → Condition Refusal
-unread n column = condition (is_unreadable n) (Unreadable column)
+abbrev pub unread : Option ℕ → ℕ → Condition Refusal
+unread n column = condition (is_none n) (Unreadable column)
 
 unfoldable pub arguments_read : Arguments → List (Condition Refusal)
 arguments_read a =

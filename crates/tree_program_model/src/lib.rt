@@ -2,17 +2,15 @@
 // examples, and no function: crate tree_program answers them.
 #![tactic(auto)]
 
-use decimal_model::Number;
-
-// The arguments as they were read, BO SO HEAD DATA ACK SINK LOSS, and how many there are.
+// The arguments BO SO HEAD DATA ACK SINK LOSS, each the number that it spells if it does, and how many there are.
 #[derive(Clone, Copy)]
 pub struct Arguments {
-    pub bo: Number,
-    pub so: Number,
-    pub head: Number,
-    pub payload: Number,
-    pub ack: Number,
-    pub sink: Number,
-    pub loss: Number,
+    pub bo: Option<u64>,
+    pub so: Option<u64>,
+    pub head: Option<u64>,
+    pub payload: Option<u64>,
+    pub ack: Option<u64>,
+    pub sink: Option<u64>,
+    pub loss: Option<u64>,
     pub count: usize,
 }

@@ -13,5 +13,5 @@ pub mod fields; // the values of a line
 pub fn names_match(line: &[u8]) -> bool
     ensures { result ≡ is_name_line line.now }
 {
-    octets::same(line, b"NODE PARENT BURST RATE")
+    line == b"NODE PARENT BURST RATE".as_slice()
 }

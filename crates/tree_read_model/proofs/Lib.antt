@@ -1,6 +1,4 @@
 -- Laws of node lists. Assumes nothing.
--- a line's values, one after another
-pub mod Taking
 -- lines that keep number 10 and their tree
 pub mod Listed
 -- the laws

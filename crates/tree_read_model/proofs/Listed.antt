@@ -1,6 +1,8 @@
 -- What the lines of a node list that keep number 10 say of its tree. Assumes nothing.
+use Rattle.std.specs.Prelude.{Option, Some, None}
+use Rattle.tree_read_model.specs.declared.Entry.{Entry}
 use mathlib.Core.Path.{◌≡◌, refl}
-use mathlib.Core.Bool.{Bool, true, false, ◌&&◌, ◌||◌, and-eq-true_iff, false≢true}
+use mathlib.Core.Bool.{true, ◌&&◌, and-eq-true_iff, false≢true}
 use mathlib.Core.Logic.{◌⊎◌, inl, inr}
 use mathlib.Core.List.{List, [], ◌∷◌, map}
 use Prim.Native.Nat.{ℕ, zero, suc, ◌+◌, ◌≤◌, ◌<◌}
@@ -8,26 +10,26 @@ use native.Mathlib.Omega.{arith}
 use lib.Dec.{eqb, leb, ltb}
 use lib.ListN.{length, get_or, length-map}
 use borrow.Author.Tests.{eqb-true, leb-true, ltb-true, ne_eqb, not-false}
+use Rattle.std.proofs.lemmas.Bool.{or_cases}
+use Rattle.std.proofs.lemmas.List.{get_or-map}
 use Rattle.refusals.specs.Conditions.{Unbroken}
 use Rattle.settings_model.specs.Columns.{twelve, every_column, column_at}
 use Rattle.tree_model.specs.Tree.{Ranged}
 use Rattle.tree_model.specs.Laws.{Surveyed, Consecutive}
 use Rattle.tree_model.proofs.PlainLists.{plain-list-surveyed}
-use Rattle.tree_read_model.specs.declared.NodeRead.{NodeRead}
-use Rattle.tree_read_model.specs.declared.NodeRead.TheVariants.{Node, Unreadable}
 use Rattle.tree_read_model.specs.Entries.{entry_in, parent_right, sensor_right, entry_right, line_right}
 use Rattle.tree_read_model.specs.Survey.{parent_in, burst_in, rate_in, tree_from, lines_from}
 
 -- what a line says that keeps the rules of node k
-pub record Says (k : ℕ) (r : NodeRead) : Type 0 where
+pub record Says (k : ℕ) (r : Option Entry) : Type 0 where
   pub few : k ≤ 254
   pub parent : parent_right k (parent_in r) ≡ true
   pub sensor : sensor_right (burst_in r) (rate_in r) ≡ true
 
-pub says : (k : ℕ) (r : NodeRead) → entry_right k r ≡ true → Says k r
+pub says : (k : ℕ) (r : Option Entry) → entry_right k r ≡ true → Says k r
 unfolding entry_right parent_in burst_in rate_in
-says k Unreadable e = absurd (false≢true e)
-says k (Node n) e =
+says k None e = absurd (false≢true e)
+says k (Some n) e =
     let d = (and-eq-true_iff (leb k 254 && eqb n.node k && parent_right k n.parent) (sensor_right n.burst n.rate)).0 e in
     let f = (and-eq-true_iff (leb k 254 && eqb n.node k) (parent_right k n.parent)).0 d.0 in
     let g = (and-eq-true_iff (leb k 254) (eqb n.node k)).0 f.0 in
@@ -57,10 +59,6 @@ parent-below k p h e =
     let d = (and-eq-true_iff (ltb 0 p) (ltb p k)).0 f in
     (ltb-true 0 p d.0, ltb-true p k d.1)
 
-either : (x y : Bool) → x || y ≡ true → (x ≡ true) ⊎ (y ≡ true)
-either true y e = inl refl
-either false y e = inr e
-
 pub record Sensor (b r : ℕ) : Type 0 where
   pub burst : b ≤ 255
   pub rate : r ≤ 4095
@@ -68,7 +66,7 @@ pub record Sensor (b r : ℕ) : Type 0 where
 
 pub sensor-is : (b r : ℕ) → sensor_right b r ≡ true → Sensor b r
 unfolding sensor_right column_at twelve every_column
-sensor-is b r e = by (either (eqb b 0 && eqb r 0) ((leb 1 b && leb b 255) && (leb 1 r && leb r 4095)) e)
+sensor-is b r e = by (or_cases (eqb b 0 && eqb r 0) ((leb 1 b && leb b 255) && (leb 1 r && leb r 4095)) e)
   where
     by : (eqb b 0 && eqb r 0 ≡ true) ⊎ ((leb 1 b && leb b 255) && (leb 1 r && leb r 4095) ≡ true) → Sensor b r
     by (inl d) =
@@ -84,12 +82,6 @@ sensor-is b r e = by (either (eqb b 0 && eqb r 0) ((leb 1 b && leb b 255) && (le
 
 -- ---- the tree
 
--- an entry of a mapped list
-map_at : (f : List ℕ → ℕ) (ls : List (List ℕ)) (i : ℕ) → i < length ls → get_or (map f ls) i 0 ≡ f (get_or ls i [])
-map_at f [] i h = absurd (omega arith)
-map_at f (l ∷ ls) zero h = refl
-map_at f (l ∷ ls) (suc i) h = map_at f ls i (omega arith)
-
 module _ (ls : List (List ℕ)) where
   pub tree-nodes : (tree_from ls).nodes ≡ length ls
   unfolding tree_from
@@ -97,15 +89,15 @@ module _ (ls : List (List ℕ)) where
 
   tree-parent : (i : ℕ) → i < length ls → (tree_from ls).parent (suc i) ≡ parent_in (entry_in (get_or ls i []))
   unfolding tree_from
-  tree-parent i h = map_at (λ l. parent_in (entry_in l)) ls i h
+  tree-parent i h = get_or-map (λ l. parent_in (entry_in l)) ls i [] 0 h
 
   tree-burst : (i : ℕ) → i < length ls → (tree_from ls).burst (suc i) ≡ burst_in (entry_in (get_or ls i []))
   unfolding tree_from
-  tree-burst i h = map_at (λ l. burst_in (entry_in l)) ls i h
+  tree-burst i h = get_or-map (λ l. burst_in (entry_in l)) ls i [] 0 h
 
   tree-rate : (i : ℕ) → i < length ls → (tree_from ls).rate (suc i) ≡ rate_in (entry_in (get_or ls i []))
   unfolding tree_from
-  tree-rate i h = map_at (λ l. rate_in (entry_in l)) ls i h
+  tree-rate i h = get_or-map (λ l. rate_in (entry_in l)) ls i [] 0 h
 
   module _ (u : Unbroken (lines_from 1 ls)) (some : 1 ≤ length ls) where
     here : (i : ℕ) → i < length ls → Says (suc i) (entry_in (get_or ls i []))

@@ -1,6 +1,6 @@
 -- Texts of node lists and what they come to, from the bytes to number and place or to the lines, computed in small tables. Assumes nothing:
 -- these are definitions and statements; proofs/ExamplesHold proves them.
-use Rattle.std.specs.Prelude.{◌≡◌, List, [], ◌∷◌, ◌++◌, map, ℕ, zero, suc}
+use Rattle.std.specs.Prelude.{◌≡◌, List, [], ◌∷◌, ◌++◌, map, ℕ, zero, suc, Some, None}
 use Prim.Native.String.{String}
 use Rattle.decimal_model.specs.Ascii.{ascii}
 use Rattle.decimal_model.specs.Decimal.{decimal}
@@ -11,7 +11,6 @@ use Rattle.settings_model.specs.Checks.{radio}
 use Rattle.refusals.specs.Outcome.{Planned, Refused}
 use Rattle.tree_model.specs.Outcome.{TreeOutcome}
 use Rattle.tree_model.specs.Examples.{node_columns, common}
-use Rattle.tree_read_model.specs.declared.NodeRead.TheVariants.{Node, Unreadable}
 use Rattle.tree_read_model.specs.Entries.{name_line, entry_in}
 use Rattle.tree_read_model.specs.Survey.{outcome_in}
 
@@ -73,11 +72,11 @@ wide n = ended (ascii "NODE PARENT BURST RATE" ∷ ascii "1 0 0 0" ∷ leaf_line
 
 pub record NodeLines : Type 0 where
   -- what a line says; its values are read as document 01's are, whatever their ranges
-  pub four_values : entry_in (ascii "3 1 2 7") ≡ Node (record { node = 3; parent = 1; burst = 2; rate = 7 })
-  pub large_values : entry_in (ascii "0 9999 256 4096") ≡ Node (record { node = 0; parent = 9999; burst = 256; rate = 4096 })
-  pub five_digits : entry_in (ascii "3 1 2 10000") ≡ Unreadable
-  pub no_values : entry_in [] ≡ Unreadable
-  pub letters : entry_in (ascii "3 1 x 7") ≡ Unreadable
+  pub four_values : entry_in (ascii "3 1 2 7") ≡ Some (record { node = 3; parent = 1; burst = 2; rate = 7 })
+  pub large_values : entry_in (ascii "0 9999 256 4096") ≡ Some (record { node = 0; parent = 9999; burst = 256; rate = 4096 })
+  pub five_digits : entry_in (ascii "3 1 2 10000") ≡ None
+  pub no_values : entry_in [] ≡ None
+  pub letters : entry_in (ascii "3 1 x 7") ≡ None
   -- a list that is planned
   pub right : second "2 1 1 1" ≡ of 0 0
   pub silent : second "2 1 0 0" ≡ of 0 0

@@ -1,5 +1,6 @@
 -- The tree that a text lists, and number 10 (document 02, E3). Assumes nothing: these are definitions.
-use Rattle.std.specs.Prelude.{true, not, ◌&&◌, List, [], ◌∷◌, ◌++◌, map, ℕ, suc, get_or, drop}
+use Rattle.tree_read_model.specs.declared.Entry.{Entry}
+use Rattle.std.specs.Prelude.{true, not, ◌&&◌, List, [], ◌∷◌, ◌++◌, map, ℕ, suc, get_or, drop, Option, Some, None}
 use Rattle.refusals.specs.declared.Refusal.{Refusal}
 use Rattle.refusals.specs.declared.Refusal.TheVariants.{InTree}
 use Rattle.refusals.specs.declared.TreeRefusal.TheVariants.{NodeNames, NodeLine, SinkNode}
@@ -11,8 +12,6 @@ use Rattle.tree_model.specs.Lines.{lines}
 use Rattle.tree_model.specs.Checks.{conditions}
 use Rattle.refusals.specs.Outcome.{Planned, Refused}
 use Rattle.tree_model.specs.Outcome.{TreeOutcome}
-use Rattle.tree_read_model.specs.declared.NodeRead.{NodeRead}
-use Rattle.tree_read_model.specs.declared.NodeRead.TheVariants.{Node, Unreadable}
 use Rattle.tree_read_model.specs.Entries.{is_name_line, entry_in, line_right}
 
 -- ---- the tree
@@ -22,17 +21,17 @@ unfoldable pub node_lines : List ℕ → List (List ℕ)
 node_lines input = drop 1 (text.lines input)
 
 -- what a line says of its node; 0 where it cannot be read, in a text that number 10 refuses
-unfoldable pub parent_in : NodeRead → ℕ
-parent_in (Node e) = e.parent
-parent_in Unreadable = 0
+unfoldable pub parent_in : Option Entry → ℕ
+parent_in (Some e) = e.parent
+parent_in None = 0
 
-unfoldable pub burst_in : NodeRead → ℕ
-burst_in (Node e) = e.burst
-burst_in Unreadable = 0
+unfoldable pub burst_in : Option Entry → ℕ
+burst_in (Some e) = e.burst
+burst_in None = 0
 
-unfoldable pub rate_in : NodeRead → ℕ
-rate_in (Node e) = e.rate
-rate_in Unreadable = 0
+unfoldable pub rate_in : Option Entry → ℕ
+rate_in (Some e) = e.rate
+rate_in None = 0
 
 -- the tree of these node lines
 unfoldable pub tree_from : List (List ℕ) → Tree

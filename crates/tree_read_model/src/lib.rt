@@ -10,10 +10,3 @@ pub struct Entry {
     pub burst: u64,
     pub rate: u64,
 }
-
-// What a line says: a node, or nothing that can be read.
-#[derive(Clone, Copy)]
-pub enum NodeRead {
-    Node(Entry),
-    Unreadable,
-}

@@ -30,7 +30,7 @@ use Rattle.tree_slots.proofs.Scatter.{share, Tallied, tally-none, tally-more, ta
 -- ---- one link
 
 module _ (ns : List ℕ) (sink v : ℕ) where
-  pub sink-carries-none : v ≡ sink → false ≡ carries_in ns sink v
+  pub sink-carries-none : v ≡ sink → not (eqb v sink) ≡ carries_in ns sink v
   unfolding carries_in
   sink-carries-none e = rw (eq-eqb v sink e)
 
@@ -102,12 +102,12 @@ module _ (a : Timing) (ps ns : List ℕ) (sink : ℕ) where
   pub passed_none : (cs us : List ℕ) → cs ≡ replicate 256 0 → us ≡ replicate 256 0 → PassedTo a ps ns sink 0 cs us
   passed_none cs us zc zu = record { counts = tally-none _ _ cs zc; used = tally-none _ _ us zu }
 
-  pub passed-same : (v : ℕ) (cs us : List ℕ) → false ≡ carries_in ns sink (v + 1) → PassedTo a ps ns sink v cs us → PassedTo a ps ns sink (v + 1) cs us
+  pub passed-same : (v : ℕ) (cs us : List ℕ) → 1 ≤ v → false ≡ carries_in ns sink v → PassedTo a ps ns sink (v - 1) cs us → PassedTo a ps ns sink (v + 1 - 1) cs us
   unfolding bit
-  passed-same v cs us e p = record { counts = tally-same _ _ v cs (rw (← e)) p.counts; used = tally-same _ _ v us (rw (← e) (omega arith)) p.used }
+  passed-same v cs us one-v e p = record { counts = tally-same _ _ v one-v cs (rw (← e)) p.counts; used = tally-same _ _ v one-v us (rw (← e) (omega arith)) p.used }
 
-  pub passed-all : (v : ℕ) (cs us : List ℕ) → length ps ≤ 255 → v ≡ length ps - 1 → PassedTo a ps ns sink v cs us → Counted a ps ns sink cs us
-  passed-all v cs us few e p =
+  pub passed-all : (n : ℕ) (cs us : List ℕ) → length ps ≤ 255 → n ≡ length ps - 1 → PassedTo a ps ns sink n cs us → Counted a ps ns sink cs us
+  passed-all n cs us few e p =
       record {
         counts = λ r h. (rw e at (p.counts.each r (omega arith))) ∙ count-shares r;
         used = λ r h. ap slots (rw e at (p.used.each r (omega arith))) ∙ used-shares r;
@@ -122,36 +122,40 @@ module _ (a : Timing) (ps ns : List ℕ) (sink : ℕ) where
         by true = omega (arith, h, L.few)
         by false = omega (arith, h, L.few, L.smaller v some h)
 
-    -- an entry has room for one more link
-    pub count_fits : (v r : ℕ) (cs us : List ℕ) → r < 256 → v + 1 < length ps → PassedTo a ps ns sink v cs us → get_or cs r 0 + 1 < 256
-    unfolding bit
-    count_fits v r cs us l h p = omega (arith, h, L.few, tally-most (superframe_in ps ns) (one ns sink) v 1 r cs l p.counts (λ w _ _. by (carries_in ns sink w)))
-      where
-        by : (b : Bool) → bit b ≤ 1
-        by true = omega arith
-        by false = omega arith
+    pub router-low : (v r : ℕ) → 1 ≤ v → v < length ps → r ≡ superframe_in ps ns v → r < 256
+    router-low v r some h e = omega (arith, e, superframe-known v some h)
 
-    used-fits : (v r : ℕ) (cs us : List ℕ) → r < 256 → v + 1 < length ps → PassedTo a ps ns sink v cs us → get_or us r 0 + (slots_of a (load_in ns (v + 1)).rate).0 < 2 ^ 64
-    used-fits v r cs us l h p =
-        let k : v ≤ 254 = omega (arith, L.few) in
-        omega (
-          arith,
-          slots-few a (load_in ns (v + 1)) (L.light (v + 1) (omega arith) h),
-          mul-le-mul_right (2 ^ 33) k,
-          tally-most (superframe_in ps ns) (many a ns sink) v (2 ^ 33) r us l p.used
-              (λ w x y. bit-most (carries_in ns sink w) _ _ (slots-few a (load_in ns w) (L.light w x (omega arith)))),
-        )
+    -- an entry has room for one more link, that of node v
+    module _ (v : ℕ) (one-v : 1 ≤ v) (h : v < length ps) (r : ℕ) (l : r < 256) (cs us : List ℕ) (p : PassedTo a ps ns sink (v - 1) cs us) where
+      pub count_fits : get_or cs r 0 + 1 < 256
+      unfolding bit
+      count_fits = omega (arith, h, L.few, tally-most (superframe_in ps ns) (one ns sink) (v - 1) 1 r cs l p.counts (λ w _ _. by (carries_in ns sink w)))
+        where
+          by : (b : Bool) → bit b ≤ 1
+          by true = omega arith
+          by false = omega arith
 
-    pub passed-more : (v r : ℕ) (k : Slots) (cs us us' : List ℕ) → v + 1 < length ps → true ≡ carries_in ns sink (v + 1) → r ≡ superframe_in ps ns (v + 1)
-        → k ≡ slots_of a (load_in ns (v + 1)).rate → us' ≡ set us r (up_to_64 (get_or us r 0 + k.0)) → PassedTo a ps ns sink v cs us
-        → PassedTo a ps ns sink (v + 1) (set cs r (get_or cs r 0 + 1)) us'
+      used-fits : get_or us r 0 + (slots_of a (load_in ns v).rate).0 < 2 ^ 64
+      used-fits =
+          let k : v - 1 ≤ 254 = omega (arith, h, L.few) in
+          omega (
+            arith,
+            slots-few a (load_in ns v) (L.light v one-v h),
+            mul-le-mul_right (2 ^ 33) k,
+            tally-most (superframe_in ps ns) (many a ns sink) (v - 1) (2 ^ 33) r us l p.used
+                (λ w x y. bit-most (carries_in ns sink w) _ _ (slots-few a (load_in ns w) (L.light w x (omega (arith, y, h))))),
+          )
+
+    pub passed-more : (v r : ℕ) (k : Slots) (cs us us' : List ℕ) → 1 ≤ v → v < length ps → true ≡ carries_in ns sink v → r ≡ superframe_in ps ns v
+        → k ≡ slots_of a (load_in ns v).rate → us' ≡ set us r (up_to_64 (get_or us r 0 + k.0)) → PassedTo a ps ns sink (v - 1) cs us
+        → PassedTo a ps ns sink (v + 1 - 1) (set cs r (get_or cs r 0 + 1)) us'
     unfolding bit
-    passed-more v r k cs us us' h e er ek eu p =
-        let l : r < 256 = omega (arith, er, superframe-known (v + 1) (omega arith) h) in
-        let c : 1 ≡ one ns sink (v + 1) = rw (← e) in
-        let m : k.0 ≡ many a ns sink (v + 1) = rw (← e, ek) (omega arith) in
-        let f : up_to_64 (get_or us r 0 + k.0) ≡ get_or us r 0 + k.0 = up_to_fits (omega (arith, used-fits v r cs us l h p, ap (λ (x : Slots). x.0) ek)) in
+    passed-more v r k cs us us' one-v h e er ek eu p =
+        let l : r < 256 = router-low v r one-v h er in
+        let c : 1 ≡ one ns sink v = rw (← e) in
+        let m : k.0 ≡ many a ns sink v = rw (← e, ek) (omega arith) in
+        let f : up_to_64 (get_or us r 0 + k.0) ≡ get_or us r 0 + k.0 = up_to_fits (omega (arith, used-fits v one-v h r l cs us p, ap (λ (x : Slots). x.0) ek)) in
         record {
-          counts = tally-more _ _ v r 1 cs er c l p.counts;
-          used = rw (eu, f) (tally-more _ _ v r k.0 us er m l p.used);
+          counts = tally-more _ _ v one-v cs r 1 er c l p.counts;
+          used = rw (eu, f) (tally-more _ _ v one-v us r k.0 er m l p.used);
         }

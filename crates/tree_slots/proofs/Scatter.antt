@@ -3,8 +3,7 @@
 use mathlib.Core.Path.{◌≡◌, sym, ap, ◌∙◌}
 use mathlib.Core.Bool.{Bool, true, false}
 use mathlib.Core.List.{List}
-use Prim.Native.Nat.{ℕ, suc, ◌+◌, ◌*◌, ◌≤◌, ◌<◌}
-use native.Mathlib.Numerals.{add-one}
+use Prim.Native.Nat.{ℕ, suc, ◌+◌, ◌-◌, ◌*◌, ◌≤◌, ◌<◌}
 use native.Mathlib.Decide.{ℕ_discrete}
 use native.Mathlib.Omega.{arith}
 use lib.Dec.{eqb}
@@ -23,20 +22,26 @@ pub record Tallied (f g : ℕ → ℕ) (n : ℕ) (acc : List ℕ) : Type 0 where
   pub room : length acc ≡ 256
   pub each : (r : ℕ) → r < 256 → get_or acc r 0 ≡ sum_to (share f g r) n
 
--- of one step
-module _ (f g : ℕ → ℕ) (n r : ℕ) where
-  share-here : f (n + 1) ≡ r → sum_to (share f g r) (n + 1) ≡ sum_to (share f g r) n + g (n + 1)
-  unfolding sum_to bit
-  share-here e = rw (add-one n) (rw (eq-eqb (f (suc n)) r (rw (add-one n) at e)) (omega arith))
+-- of one step: node v, where those before it have come
+module _ (f g : ℕ → ℕ) (v r : ℕ) (one : 1 ≤ v) where
+  on : v + 1 - 1 ≡ suc (v - 1)
+  on = omega arith
 
-  share-elsewhere : (f (n + 1) ≡ r → ⊥) → sum_to (share f g r) (n + 1) ≡ sum_to (share f g r) n
-  unfolding sum_to bit
-  share-elsewhere e = rw (add-one n) (rw (ne_eqb (f (suc n)) r (rw (add-one n) at e)) (omega arith))
+  here : suc (v - 1) ≡ v
+  here = omega arith
 
-  share-nothing : g (n + 1) ≡ 0 → sum_to (share f g r) (n + 1) ≡ sum_to (share f g r) n
-  share-nothing z = by (ℕ_discrete (f (n + 1)) r)
+  share-here : f v ≡ r → sum_to (share f g r) (v + 1 - 1) ≡ sum_to (share f g r) (v - 1) + g v
+  unfolding sum_to bit
+  share-here e = rw (on, here) (rw (eq-eqb (f v) r e) (omega arith))
+
+  share-elsewhere : (f v ≡ r → ⊥) → sum_to (share f g r) (v + 1 - 1) ≡ sum_to (share f g r) (v - 1)
+  unfolding sum_to bit
+  share-elsewhere e = rw (on, here) (rw (ne_eqb (f v) r e) (omega arith))
+
+  share-nothing : g v ≡ 0 → sum_to (share f g r) (v + 1 - 1) ≡ sum_to (share f g r) (v - 1)
+  share-nothing z = by (ℕ_discrete (f v) r)
     where
-      by : Dec (f (n + 1) ≡ r) → sum_to (share f g r) (n + 1) ≡ sum_to (share f g r) n
+      by : Dec (f v ≡ r) → sum_to (share f g r) (v + 1 - 1) ≡ sum_to (share f g r) (v - 1)
       by (yes e) = omega (arith, share-here e, z)
       by (no e) = share-elsewhere e
 
@@ -45,16 +50,17 @@ module _ (f g : ℕ → ℕ) where
   unfolding sum_to
   tally-none acc z = record { room = ap length z ∙ length-replicate {A = ℕ} 256 0; each = λ r h. ap (λ (l : List ℕ). get_or l r 0) z ∙ get_or-replicate {A = ℕ} 256 r 0 0 h }
 
-  -- entry k gets m more
-  pub tally-more : (n k m : ℕ) (acc : List ℕ) → k ≡ f (n + 1) → m ≡ g (n + 1) → k < 256 → Tallied f g n acc → Tallied f g (n + 1) (set acc k (get_or acc k 0 + m))
-  tally-more n k m acc ek em h t = record { room = length-set acc k (get_or acc k 0 + m) ∙ t.room; each = λ r l. by r l (ℕ_discrete k r) }
-    where
-      by : (r : ℕ) → r < 256 → Dec (k ≡ r) → get_or (set acc k (get_or acc k 0 + m)) r 0 ≡ sum_to (share f g r) (n + 1)
-      by r l (yes e) = rw (← e) (get_or-set_same acc k (get_or acc k 0 + m) 0 (omega (arith, t.room)) ∙ omega (arith, em, t.each k h, share-here f g n k (sym ek)))
-      by r l (no e) = get_or-set_other acc k r (get_or acc k 0 + m) 0 (λ x. e (sym x)) ∙ t.each r l ∙ sym (share-elsewhere f g n r (λ x. e (ek ∙ x)))
+  module _ (v : ℕ) (one : 1 ≤ v) (acc : List ℕ) where
+    -- entry k gets m more
+    pub tally-more : (k m : ℕ) → k ≡ f v → m ≡ g v → k < 256 → Tallied f g (v - 1) acc → Tallied f g (v + 1 - 1) (set acc k (get_or acc k 0 + m))
+    tally-more k m ek em h t = record { room = length-set acc k (get_or acc k 0 + m) ∙ t.room; each = λ r l. by r l (ℕ_discrete k r) }
+      where
+        by : (r : ℕ) → r < 256 → Dec (k ≡ r) → get_or (set acc k (get_or acc k 0 + m)) r 0 ≡ sum_to (share f g r) (v + 1 - 1)
+        by r l (yes e) = rw (← e) (get_or-set_same acc k (get_or acc k 0 + m) 0 (omega (arith, t.room)) ∙ omega (arith, em, t.each k h, share-here f g v k one (sym ek)))
+        by r l (no e) = get_or-set_other acc k r (get_or acc k 0 + m) 0 (λ x. e (sym x)) ∙ t.each r l ∙ sym (share-elsewhere f g v r one (λ x. e (ek ∙ x)))
 
-  pub tally-same : (n : ℕ) (acc : List ℕ) → g (n + 1) ≡ 0 → Tallied f g n acc → Tallied f g (n + 1) acc
-  tally-same n acc z t = record { room = t.room; each = λ r l. t.each r l ∙ sym (share-nothing f g n r z) }
+    pub tally-same : g v ≡ 0 → Tallied f g (v - 1) acc → Tallied f g (v + 1 - 1) acc
+    tally-same z t = record { room = t.room; each = λ r l. t.each r l ∙ sym (share-nothing f g v r one z) }
 
   -- no entry holds more than the sum of bounds
   pub tally-most : (n m r : ℕ) (acc : List ℕ) → r < 256 → Tallied f g n acc → ((v : ℕ) → 1 ≤ v → v ≤ n → g v ≤ m) → get_or acc r 0 ≤ n * m

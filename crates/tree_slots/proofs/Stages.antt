@@ -1,14 +1,13 @@
 -- All conditions, part after part, and what holds of the tables where 10, 3, 4 and 6 are kept. Assumes nothing.
+use Rattle.std.specs.Prelude.{Ok, Err}
 use mathlib.Core.Path.{◌≡◌, sym, ap, ◌∙◌}
 use mathlib.Core.List.{List, ◌++◌, append_assoc}
 use Prim.Native.Nat.{ℕ, ◌+◌, ◌-◌}
 use lib.ListN.{length, take}
 use Rattle.links.specs.declared.Timing.{Timing}
 use Rattle.refusals.specs.declared.Refusal.{Refusal}
-use Rattle.refusals.specs.declared.Verdict.{Verdict}
-use Rattle.refusals.specs.declared.Verdict.TheVariants.{Kept, Broken}
-use Rattle.refusals.specs.Conditions.{Condition}
-use Rattle.refusals.proofs.Answering.{verdict, first-part-answers, second-part-answers}
+use Rattle.refusals.specs.Conditions.{Condition, verdict}
+use Rattle.refusals.proofs.Answering.{first-part-answers, second-part-answers}
 use Rattle.settings_model.specs.declared.Radio.{Radio}
 use Rattle.settings_model.specs.Checks.{radio_checks}
 use Rattle.plan_model.specs.Times.{timing_answered}
@@ -29,11 +28,11 @@ module _ (input : List ℕ) (b : Radio) (sink : ℕ) where
       sym (append_assoc (surveyed input sink) (radio_checks b ++ routers_fit b (tree_in input)) last)
       ∙ ap (λ (cs : List (Condition Refusal)). cs ++ last) (sym (append_assoc (surveyed input sink) (radio_checks b) (routers_fit b (tree_in input))))
 
-  pub before-broken : (x : Refusal) → verdict (conditions_before_slots input b sink) ≡ Broken x → Broken x ≡ verdict (conditions_in input b sink)
-  before-broken x e = rw in_parts (first-part-answers Broken Kept (conditions_before_slots input b sink) last x e)
+  pub before-broken : (x : Refusal) → verdict (conditions_before_slots input b sink) ≡ Err x → Err x ≡ verdict (conditions_in input b sink)
+  before-broken x e = rw in_parts (first-part-answers Err (Ok tt) (conditions_before_slots input b sink) last x e)
 
-  before-kept : verdict (conditions_before_slots input b sink) ≡ Kept → verdict last ≡ verdict (conditions_in input b sink)
-  before-kept e = rw in_parts (second-part-answers Broken Kept (conditions_before_slots input b sink) last e)
+  before-kept : verdict (conditions_before_slots input b sink) ≡ Ok tt → verdict last ≡ verdict (conditions_in input b sink)
+  before-kept e = rw in_parts (second-part-answers Err (Ok tt) (conditions_before_slots input b sink) last e)
 
   -- where those before are kept
   module _ (n : ℕ) (ks ns : List ℕ) (H : LoadsHeld input b sink n ks ns) where
@@ -41,7 +40,7 @@ module _ (input : List ℕ) (b : Radio) (sink : ℕ) where
       pub loaded-held : Loaded a (take (n + 1) ks) ns
       loaded-held = rw (parents-held input b sink n ks ns H) (tables-held input b sink n ks ns H a e).loads
 
-      pub slots_next : (v : Verdict) → verdict (conditions_before_slots input b sink) ≡ Kept
-          → v ≡ verdict (routers_in_from a b.so (take (n + 1) ks) ns sink (length (take (n + 1) ks) - 1) 1) → v ≡ verdict (conditions_in input b sink)
+      pub slots_next : verdict (conditions_before_slots input b sink) ≡ Ok tt
+          → verdict (routers_in_from a b.so (take (n + 1) ks) ns sink (length (take (n + 1) ks) - 1) 1) ≡ verdict (conditions_in input b sink)
       unfolding tree_in tree_from
-      slots_next v k q = (rw (parents-held input b sink n ks ns H) at q) ∙ ap verdict ((tables-held input b sink n ks ns H a e).routers (tree_in input).nodes 1) ∙ before-kept k
+      slots_next k = rw (parents-held input b sink n ks ns H) (ap verdict ((tables-held input b sink n ks ns H a e).routers (tree_in input).nodes 1) ∙ before-kept k)

@@ -5,8 +5,7 @@
 #![tactic(auto)]
 
 ghost use Rattle.std.specs.Prelude.{◌≡◌, ◌≤◌, ◌-◌, length};
-ghost use Rattle.refusals.specs.declared.Verdict.TheVariants.{Kept, Broken};
-ghost use Rattle.refusals.specs.Conditions.{first_broken};
+ghost use Rattle.refusals.specs.Conditions.{verdict, verdict_of};
 ghost use Rattle.tree_plan_model.specs.Stages.{conditions_in, LoadsLeft};
 ghost use Rattle.tree_plan_model.specs.Tables.{Loaded, routers_in_from};
 
@@ -14,7 +13,7 @@ use crate::routers::routers_fit;
 use crate::tally::tally;
 use links::Timing;
 use plan_common::timing_of;
-use refusals::Verdict;
+use refusals::Refusal;
 use settings_model::Radio;
 use tree_loads::loads_of;
 use tree_plan_model::Stage;
@@ -24,31 +23,27 @@ mod tally; // the reservations of every router, by one pass
 
 // Checks every condition, 10 and 3 to 7, for any settings and any sink. Lent notes are those of `loads_of`: made where 10, 3, 4 and 6 are
 // kept, and else as they were.
-pub fn check(input: &[u8], b: Radio, sink: u64, notes: &mut [u64; 768]) -> Stage
-    ensures verdict_value { result.verdict ≡ first_broken Broken Kept (conditions_in input.now b sink) }
+pub fn check(input: &[u8], b: Radio, sink: u64, notes: &mut [u64; 768]) -> Result<Stage, Refusal>
+    ensures verdict_value { verdict_of result ≡ verdict (conditions_in input.now b sink) }
     ensures loads_left { LoadsLeft input.now b sink result notes.old notes.new }
 {
-    let loads = loads_of(input, b, sink, notes);
-    let verdict = loads.verdict;
-    if let Verdict::Broken(_) = verdict {
-        return loads;
-    }
-    let nodes = loads.nodes;
-    let n = nodes + 1;
-    let kin = loads.kin;
-    let verdict = slots_fit(timing_of(b), b.so, &kin[..n], notes, sink as usize);
-    Stage {
-        verdict,
-        nodes,
-        kin,
-    }
+    let stage = loads_of(input, b, sink, notes)?;
+    let parents = &stage.kin[..=stage.nodes];
+    slots_fit(timing_of(b), b.so, parents, notes, sink as usize)?;
+    Ok(stage)
 }
 
 // Numbers 5 and 7.
-fn slots_fit(t: Timing, so: u64, parents: &[u8], notes: &[u64; 768], sink: usize) -> Verdict
+fn slots_fit(
+    t: Timing,
+    so: u64,
+    parents: &[u8],
+    notes: &[u64; 768],
+    sink: usize,
+) -> Result<(), Refusal>
     requires loaded { Loaded t parents.now notes.now }
     requires so_bound { so ≤ 14 }
-    ensures { result ≡ first_broken Broken Kept
+    ensures { result ≡ verdict
         (routers_in_from t so parents.now notes.now sink (length parents.now - 1) 1) }
 {
     let mut counts = [0u8; 256];

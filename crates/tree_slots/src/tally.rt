@@ -21,9 +21,7 @@ pub(crate) fn tally(
     requires used_value { used.old ≡ replicate 256 0 }
     ensures { Counted t parents.now notes.now sink counts.new used.new }
 {
-    let mut v = 0;
-    while v < parents.len() - 1 {
-        v += 1;
+    for v in 1..parents.len() {
         if carries(notes, sink, v) {
             let router = superframe_of(parents, notes, v);
             let reservation = reservation_for(t, load_at(notes, v).rate);
@@ -38,8 +36,7 @@ fn add_slots(used: &mut [u64; 256], router: usize, more: Slots)
     requires { router < 256 }
     ensures { used.new ≡ set used.old router (up_to_64 (get_or used.old router 0 + more.0)) }
 {
-    let sum = Slots(used[router]).plus(more);
-    used[router] = sum.0;
+    used[router] = Slots(used[router]).plus(more).0;
 }
 
 // Whether the link of node v has traffic: the sink has no link.
@@ -47,10 +44,7 @@ fn carries(notes: &[u64; 768], sink: usize, v: usize) -> bool
     requires { v < 256 }
     ensures { result ≡ carries_in notes.now sink v }
 {
-    if v == sink {
-        return false;
-    }
-    0 < load_at(notes, v).rate.0
+    v != sink && 0 < load_at(notes, v).rate.0
 }
 
 // The router in whose superframe the link of node v lies: the parent of its two ends.

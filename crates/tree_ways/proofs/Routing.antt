@@ -1,17 +1,14 @@
 -- The delays of ways, one node after another. Assumes nothing.
 use mathlib.Core.Path.{◌≡◌, sym, ◌∙◌}
-use mathlib.Core.Bool.{cond}
 use mathlib.Core.Logic.{◌⊎◌, inl, inr, ⊎_elim}
 use mathlib.Core.List.{List}
 use Prim.Native.Nat.{ℕ, ◌+◌, ◌-◌, ◌*◌, ◌≤◌, ◌<◌, ◌^◌}
 use native.Mathlib.Nat.{mul-le-mul_right}
 use native.Mathlib.Decide.{ℕ_discrete, dec_le}
 use native.Mathlib.Omega.{arith}
-use lib.Dec.{ltb}
 use lib.ListN.{length, get_or, set}
 use lib.Seq.{get_or-set_same}
-use borrow.Author.Tests.{lt-ltb, le-ltb}
-use Rattle.measure.specs.Measures.{symbols, up_to_64}
+use Rattle.measure.specs.Measures.{up_to_64}
 use Rattle.measure.proofs.Limits.{up_to_fits}
 use Rattle.links.specs.declared.Timing.{Timing}
 use Rattle.links.specs.declared.Load.{Load}
@@ -28,14 +25,7 @@ use Rattle.tree_plan_model.proofs.Noting.{load-noted, towards-noted}
 use Rattle.tree_ways.proofs.Putting.{entry-put}
 use Rattle.tree_ways.proofs.Figuring.{delay-low}
 
--- ---- one way, read and put
-
-module _ (ws : List ℕ) (v : ℕ) where
-  pub way-some : v < 256 → symbols (get_or ws v 0) ≡ symbols (cond (ltb v 256) (get_or ws v 0) 0)
-  way-some h = rw (lt-ltb v 256 h)
-
-  pub way-none : 256 ≤ v → symbols 0 ≡ symbols (cond (ltb v 256) (get_or ws v 0) 0)
-  way-none h = rw (le-ltb v 256 h)
+-- ---- one way, put
 
 -- from what the functions answer that make it
 pub way-made : (a : Timing) (ns ws : List ℕ) (v u : ℕ) → v < 256 → Light a (load_in ns v) → (l : Load) (f : Figures) (x : ℕ)
@@ -130,72 +120,71 @@ module _ (a : Timing) (ps ns : List ℕ) (sink : ℕ) (D : Loaded a ps ns) (L : 
   pub down-none : (ws : List ℕ) → sink < length ws → DownFrom a ps ns sink (length ps) (set ws sink 0)
   down-none ws l = record { own = get_or-set_same ws sink 0 0 l ∙ sym way-at-sink; downs = λ v x one y z. absurd (omega (arith, x, y)) }
 
-  module _ (n m : ℕ) (one : 1 ≤ n) (h : n < length ps) (after : m ≤ n + 1) (u : ℕ) (e : u ≡ towards_noted ns n) (ws : List ℕ) (d : DownFrom a ps ns sink m ws) where
-    down-led : u ≡ towards_in ns n
-    down-led = e ∙ towards-noted ns n (omega (arith, h, D.few))
+  -- node n, whose neighbour towards the sink is u
+  module _ (n : ℕ) (one : 1 ≤ n) (h : n < length ps) (u : ℕ) (e : u ≡ towards_noted ns n) (ws : List ℕ) where
+    u-led : u ≡ towards_in ns n
+    u-led = e ∙ towards-noted ns n (omega (arith, h, D.few))
 
-    pub down-same : u ≤ n → DownFrom a ps ns sink n ws
-    down-same l = record { own = d.own; downs = λ v x v1 y z. d.downs v (omega (arith, x, after, other v z)) v1 y z }
-      where
-        other : (v : ℕ) → v < towards_in ns v → v ≡ n → ⊥
-        other v z q = let w : n < towards_in ns n = rw q at z in omega (arith, w, l, down-led)
+    -- where those behind it are set
+    module _ (d : DownFrom a ps ns sink (n + 1) ws) where
+      pub down-same : u ≤ n → DownFrom a ps ns sink n ws
+      down-same l = record { own = d.own; downs = λ v x v1 y z. d.downs v (omega (arith, x, other v z)) v1 y z }
+        where
+          other : (v : ℕ) → v < towards_in ns v → v ≡ n → ⊥
+          other v z q = let w : n < towards_in ns n = rw q at z in omega (arith, w, l, u-led)
 
-    module _ (l : n < u) where
-      down : n < towards_in ns n
-      down = omega (arith, l, down-led)
+      module _ (l : n < u) where
+        down : n < towards_in ns n
+        down = omega (arith, l, u-led)
 
-      not-sink : n ≡ sink → ⊥
-      not-sink = away n one h down
+        not-sink : n ≡ sink → ⊥
+        not-sink = away n one h down
 
-      pub down-low : u < 256
-      down-low = omega (arith, down-led, (next_known n one h not-sink).1, D.few)
+        pub down-low : u < 256
+        down-low = omega (arith, u-led, (next_known n one h not-sink).1, D.few)
 
-      rest-right : get_or ws (towards_in ns n) 0 ≡ way_in a ps ns sink (towards_in ns n)
-      rest-right =
-          let k = next_known n one h not-sink in
-          ⊎_elim (λ q. rw q d.own) (λ x. d.downs (towards_in ns n) (omega (arith, after, down)) k.0 k.1 x) (down-again n one h down)
+        rest-right : get_or ws (towards_in ns n) 0 ≡ way_in a ps ns sink (towards_in ns n)
+        rest-right =
+            let k = next_known n one h not-sink in
+            ⊎_elim (λ q. rw q d.own) (λ x. d.downs (towards_in ns n) (omega (arith, down)) k.0 k.1 x) (down-again n one h down)
 
-      pub down-more : n < length ws → (ws' : List ℕ) → ws' ≡ set ws n (up_to_64 (delay_in a ns n + get_or ws u 0)) → DownFrom a ps ns sink n ws'
-      down-more w ws' q =
-          let right : up_to_64 (delay_in a ns n + get_or ws u 0) ≡ way_in a ps ns sink n = rw down-led (sum-right n one h not-sink ws rest-right) in
+        pub down-more : n < length ws → (ws' : List ℕ) → ws' ≡ set ws n (up_to_64 (delay_in a ns n + get_or ws u 0)) → DownFrom a ps ns sink n ws'
+        down-more w ws' q =
+            let right : up_to_64 (delay_in a ns n + get_or ws u 0) ≡ way_in a ps ns sink n = rw u-led (sum-right n one h not-sink ws rest-right) in
+            rw q
+            (record {
+              own = entry-put (way_in a ps ns sink) ws n _ w right sink (λ x. d.own);
+              downs = λ v x v1 y z. entry-put (way_in a ps ns sink) ws n _ w right v (λ k. d.downs v (omega (arith, x, k)) v1 y z);
+            })
+
+    -- ---- the others, from the first to the last: where those before it are set
+    module _ (U : UpTo a ps ns sink (n - 1) ws) where
+      pub up_same : (n ≡ sink) ⊎ (n ≤ u) → UpTo a ps ns sink (n + 1 - 1) ws
+      up_same s = record { down = U.down; ups = λ v x y z. by v x y z (ℕ_discrete v n) }
+        where
+          more : n ≤ u → n < towards_in ns n
+          more x = let z = (faced n one h).apart in omega (arith, x, z, u-led)
+
+          by : (v : ℕ) → 1 ≤ v → v ≤ n + 1 - 1 → v < length ps → Dec (v ≡ n) → get_or ws v 0 ≡ way_in a ps ns sink v
+          by v x y z (yes q) = rw q (⊎_elim (λ k. rw k U.down.own) (λ k. U.down.downs n one one h (more k)) s)
+          by v x y z (no q) = U.ups v x (omega (arith, y, q)) z
+
+      pub up_more : (n ≡ sink → ⊥) → u < n → n < length ws → (ws' : List ℕ) → ws' ≡ set ws n (up_to_64 (delay_in a ns n + get_or ws u 0)) → UpTo a ps ns sink (n + 1 - 1) ws'
+      up_more m l w ws' q =
+          let k = next_known n one h m in
+          let rest : get_or ws (towards_in ns n) 0 ≡ way_in a ps ns sink (towards_in ns n) = U.ups (towards_in ns n) k.0 (omega (arith, l, u-led)) k.1 in
+          let right : up_to_64 (delay_in a ns n + get_or ws u 0) ≡ way_in a ps ns sink n = rw u-led (sum-right n one h m ws rest) in
           rw q
           (record {
-            own = entry-put (way_in a ps ns sink) ws n _ w right sink (λ x. d.own);
-            downs = λ v x v1 y z. entry-put (way_in a ps ns sink) ws n _ w right v (λ k. d.downs v (omega (arith, x, after, k)) v1 y z);
+            down = record {
+              own = entry-put (way_in a ps ns sink) ws n _ w right sink (λ x. U.down.own);
+              downs = λ v x v1 y z. entry-put (way_in a ps ns sink) ws n _ w right v (λ j. U.down.downs v x v1 y z);
+            };
+            ups = λ v x y z. entry-put (way_in a ps ns sink) ws n _ w right v (λ j. U.ups v x (omega (arith, y, j)) z);
           })
-
-  -- ---- the others, from the first to the last
 
   pub up_none : (ws : List ℕ) → DownFrom a ps ns sink 1 ws → UpTo a ps ns sink 0 ws
   up_none ws d = record { down = d; ups = λ v x y z. absurd (omega (arith, x, y)) }
 
   pub up-all : (n : ℕ) (ws : List ℕ) → length ps - 1 ≤ n → UpTo a ps ns sink n ws → WaysSet a ps ns sink ws
   up-all n ws l u = record { each = λ v x y. u.ups v x (omega arith) y }
-
-  module _ (n : ℕ) (h : n + 1 < length ps) (u : ℕ) (e : u ≡ towards_noted ns (n + 1)) (ws : List ℕ) (U : UpTo a ps ns sink n ws) where
-    up-led : u ≡ towards_in ns (n + 1)
-    up-led = e ∙ towards-noted ns (n + 1) (omega (arith, h, D.few))
-
-    pub up_same : (n + 1 ≡ sink) ⊎ (n + 1 ≤ u) → UpTo a ps ns sink (n + 1) ws
-    up_same s = record { down = U.down; ups = λ v x y z. by v x y z (ℕ_discrete v (n + 1)) }
-      where
-        more : n + 1 ≤ u → n + 1 < towards_in ns (n + 1)
-        more x = let z = (faced (n + 1) (omega arith) h).apart in omega (arith, x, z, up-led)
-
-        by : (v : ℕ) → 1 ≤ v → v ≤ n + 1 → v < length ps → Dec (v ≡ n + 1) → get_or ws v 0 ≡ way_in a ps ns sink v
-        by v x y z (yes q) = rw q (⊎_elim (λ k. rw k U.down.own) (λ k. U.down.downs (n + 1) (omega arith) (omega arith) h (more k)) s)
-        by v x y z (no q) = U.ups v x (omega (arith, y, q)) z
-
-    pub up_more : (n + 1 ≡ sink → ⊥) → u < n + 1 → n + 1 < length ws → (ws' : List ℕ) → ws' ≡ set ws (n + 1) (up_to_64 (delay_in a ns (n + 1) + get_or ws u 0)) → UpTo a ps ns sink (n + 1) ws'
-    up_more m l w ws' q =
-        let k = next_known (n + 1) (omega arith) h m in
-        let rest : get_or ws (towards_in ns (n + 1)) 0 ≡ way_in a ps ns sink (towards_in ns (n + 1)) = U.ups (towards_in ns (n + 1)) k.0 (omega (arith, l, up-led)) k.1 in
-        let right : up_to_64 (delay_in a ns (n + 1) + get_or ws u 0) ≡ way_in a ps ns sink (n + 1) = rw up-led (sum-right (n + 1) (omega arith) h m ws rest) in
-        rw q
-        (record {
-          down = record {
-            own = entry-put (way_in a ps ns sink) ws (n + 1) _ w right sink (λ x. U.down.own);
-            downs = λ v x v1 y z. entry-put (way_in a ps ns sink) ws (n + 1) _ w right v (λ j. U.down.downs v x v1 y z);
-          };
-          ups = λ v x y z. entry-put (way_in a ps ns sink) ws (n + 1) _ w right v (λ j. U.ups v x (omega (arith, y, j)) z);
-        })

@@ -12,15 +12,9 @@ pub(crate) fn set_depths(parents: &[u8], depths: &mut [u8])
     requires depths_len { length depths.old ≡ 256 }
     ensures { DepthsSet parents.now depths.new }
 {
-    let mut v = 0;
-    while v < parents.len() - 1 {
-        v += 1;
-        if v < 2 {
-            depths[v] = 0;
-        } else {
-            let p = parents[v] as usize;
-            let above = depths[p];
-            depths[v] = above + 1;
-        }
+    depths[1] = 0;
+    for v in 2..parents.len() {
+        let above = depths[usize::from(parents[v])];
+        depths[v] = above + 1;
     }
 }

@@ -12,13 +12,14 @@ pub fn link_figures(t: Timing, load: Load) -> Figures
     ensures { Light t load → result ≡ link_for t load }
 {
     if load.rate.0 == 0 {
-        return no_figures();
+        no_figures()
+    } else {
+        figures_of(t.interval, load, reservation_for(t, load.rate))
     }
-    figures_of(t.interval, load, reservation_for(t, load.rate))
 }
 
-// No figures.
-fn no_figures() -> Figures
+// Those without traffic.
+pub fn no_figures() -> Figures
     ensures { result ≡ no_figures }
 {
     Figures {

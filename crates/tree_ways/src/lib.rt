@@ -5,14 +5,13 @@
 #![tactic(auto)]
 
 ghost use Rattle.std.specs.Prelude.{◌≡◌};
-ghost use Rattle.refusals.specs.declared.Verdict.TheVariants.{Kept, Broken};
-ghost use Rattle.refusals.specs.Conditions.{first_broken};
+ghost use Rattle.refusals.specs.Conditions.{verdict, verdict_of};
 ghost use Rattle.tree_plan_model.specs.Stages.{conditions_in, LoadsLeft, WaysLeft};
 
 use crate::depths::set_depths;
 use crate::ways::set_ways;
 use plan_common::timing_of;
-use refusals::Verdict;
+use refusals::Refusal;
 use settings_model::Radio;
 use tree_plan_model::Stage;
 
@@ -29,20 +28,15 @@ pub fn ways_of(
     notes: &mut [u64; 768],
     depths: &mut [u8; 256],
     ways: &mut [u64; 256],
-) -> Stage
-    ensures verdict_value { result.verdict ≡ first_broken Broken Kept (conditions_in input.now b sink) }
+) -> Result<Stage, Refusal>
+    ensures verdict_value { verdict_of result ≡ verdict (conditions_in input.now b sink) }
     ensures loads_left { LoadsLeft input.now b sink result notes.old notes.new }
-    ensures ways_left { WaysLeft input.now b sink result.verdict notes.new depths.old depths.new
+    ensures ways_left { WaysLeft input.now b sink (verdict_of result) notes.new depths.old depths.new
         ways.old ways.new }
 {
-    let stage = tree_slots::check(input, b, sink, notes);
-    let verdict = stage.verdict;
-    if let Verdict::Kept = verdict {
-        let n = stage.nodes + 1;
-        let kin = stage.kin;
-        let parents = &kin[..n];
-        set_depths(parents, depths);
-        set_ways(timing_of(b), parents, notes, sink as usize, ways);
-    }
-    stage
+    let stage = tree_slots::check(input, b, sink, notes)?;
+    let parents = &stage.kin[..=stage.nodes];
+    set_depths(parents, depths);
+    set_ways(timing_of(b), parents, notes, sink as usize, ways);
+    Ok(stage)
 }

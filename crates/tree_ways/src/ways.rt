@@ -16,10 +16,7 @@ use tree_notes::{load_at, towards_at};
 pub fn way_at(ways: &[u64; 256], v: usize) -> Symbols
     ensures { result ≡ symbols (cond (ltb v 256) (get_or ways.now v 0) 0) }
 {
-    if v < 256 {
-        return Symbols(ways[v]);
-    }
-    Symbols(0)
+    Symbols(ways.get(v).copied().unwrap_or(0))
 }
 
 // Sets the delays of all ways, by two passes.
@@ -46,9 +43,7 @@ fn set_down(t: Timing, parents: &[u8], notes: &[u64; 768], sink: usize, ways: &m
     ensures { DownFrom t parents.now notes.now sink 1 ways.new }
 {
     ways[sink] = 0;
-    let mut v = parents.len();
-    while 1 < v {
-        v -= 1;
+    for v in (1..parents.len()).rev() {
         let u = towards_at(notes, v);
         if v < u {
             set_way(t, notes, v, u, ways);
@@ -64,11 +59,9 @@ fn set_up(t: Timing, parents: &[u8], notes: &[u64; 768], sink: usize, ways: &mut
     requires down_from { DownFrom t parents.now notes.now sink 1 ways.old }
     ensures { WaysSet t parents.now notes.now sink ways.new }
 {
-    let mut v = 0;
-    while v < parents.len() - 1 {
-        v += 1;
+    for v in 1..parents.len() {
         let u = towards_at(notes, v);
-        if leads_up(sink, v, u) {
+        if v != sink && u < v {
             set_way(t, notes, v, u, ways);
         }
     }
@@ -83,17 +76,5 @@ fn set_way(t: Timing, notes: &[u64; 768], v: usize, u: usize, ways: &mut [u64])
     ensures { ways.new ≡ set ways.old v (up_to_64 (delay_in t notes.now v + get_or ways.old u 0)) }
 {
     let own = link_figures(t, load_at(notes, v)).delay;
-    let way = own.plus(Symbols(ways[u]));
-    ways[v] = way.0;
-}
-
-// Whether u, the neighbour of node v towards the sink, is its parent.
-fn leads_up(sink: usize, v: usize, u: usize) -> bool
-    ensures up { result ≡ true → (v ≡ sink → ⊥) × (u < v) }
-    ensures other { result ≡ false → (v ≡ sink) ⊎ (v ≤ u) }
-{
-    if v == sink {
-        return false;
-    }
-    u < v
+    ways[v] = own.plus(Symbols(ways[u])).0;
 }

@@ -1,31 +1,19 @@
 -- `decimal::all_digits` meets its contract. Assumes nothing.
-use mathlib.Core.Path.{refl, sym, ◌∙◌}
-use native.Mathlib.Omega.{arith}
-use lib.ListN.{drop_of_length-le}
-use Rattle.decimal_model.specs.Number.{digits}
-use Rattle.decimal_model.proofs.Spelling.{digits_step}
+use Rattle.std.proofs.Common.{◌≡◌, ◌∙◌, refl, ap, List, [], ◌∷◌, ℕ, ◌&&◌, rules}
+use borrow.Author.Tests.{tests}
+use Rattle.std.specs.List.{list_all}
+use Rattle.std.proofs.lemmas.Iterator.{YieldsList-from_slice}
+use Rattle.std.proofs.lemmas.Iterator.Search.{all_from_yields_List}
+use Rattle.decimal_model.specs.Number.{digit, digits}
 use Rattle.decimal.proofs.all_digits.Goals as goal
 
-pub returns-then-not-is_digit : goal.returns-then-not-is_digit
-returns-then-not-is_digit c =
-    let s = c.args.text.now in
-    let l = c.loop-i in
-    let e = digits_step s l.i c.loop-i-test.true in
-    let d = sym c.is_digit.ensures ∙ c.if-not-is_digit.true in
-    rw (sym l.invariant.1, e, d) refl
-
-pub loop-i-preserved : goal.loop-i-preserved
-loop-i-preserved c =
-    let s = c.args.text.now in
-    let l = c.loop-i in
-    let h = c.loop-i-test.true in
-    let e = digits_step s l.i h in
-    let d = sym c.is_digit.ensures ∙ c.if-not-is_digit.false in
-    (omega (arith, h), sym (rw d at e) ∙ l.invariant.1)
+-- digits one by one
+each : (s : List ℕ) → list_all digit s ≡ digits s
+unfolding digits
+each [] = refl
+each (b ∷ bs) = ap (λ r. digit b && r) (each bs)
 
 pub returns : goal.returns
-unfolding digits
 returns c =
-    let s = c.args.text.now in
-    let l = c.loop-i in
-    rw (sym l.invariant.1, drop_of_length-le s {i = l.i} (omega (arith, c.loop-i-test.false))) refl
+    all_from_yields_List digit _ _ _ c.all.ensures.ran (YieldsList-from_slice c.args.text.now cc) (λ x b q k. search (rules, tests))
+    ∙ each c.args.text.now

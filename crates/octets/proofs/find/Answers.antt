@@ -1,20 +1,15 @@
 -- `octets::find` meets its contract. Assumes nothing.
-use Rattle.std.proofs.Common.{◌∙◌, arith, eq-eqb}
-use borrow.Author.Tests.{ne_eqb}
-use Rattle.octets.proofs.Finding.{found-nowhere, found-here, found-behind}
+use Rattle.std.proofs.Common.{◌==◌, rules, drop, refl}
+use borrow.Author.Tests.{tests}
+use Rattle.std.proofs.lemmas.Iterator.{YieldsList-from_slice}
+use Rattle.std.proofs.lemmas.Iterator.Search.{position_from_yields_List}
+use Rattle.octets.proofs.Finding.{rest_of, found}
 use Rattle.octets.proofs.find.Goals as goal
-
-pub returns-then-text-i-clause-place : goal.returns-then-text-i-clause-place
-returns-then-text-i-clause-place c =
-    let e = found-here c.args.byte c.args.text.now c.loop-i.i (omega arith) (eq-eqb _ _ c.if-text-i.true) in
-    omega (arith, e, c.loop-i.invariant.0)
-
-pub loop-i-preserved : goal.loop-i-preserved
-loop-i-preserved c =
-    let e = found-behind c.args.byte c.args.text.now c.loop-i.i (omega arith) (ne_eqb _ _ c.if-text-i.false) in
-    (c.loop-i.invariant.0 ∙ e, λ h. omega arith)
 
 pub returns-clause-place : goal.returns-clause-place
 returns-clause-place c =
-    let e = found-nowhere c.args.byte c.args.text.now c.loop-i.i (omega arith) in
-    omega (arith, e, c.loop-i.invariant.0)
+    let a = c.args in
+    let rest = rest_of a.text.now a.at c.get.result _ c.unwrap_or-rest.result refl c.get.ensures.lookup c.unwrap_or-rest.ensures in
+    let bytes = YieldsList-from_slice c.unwrap_or-rest.result.now cc in
+    let p = position_from_yields_List (λ b. b == a.byte) _ _ _ c.position.ensures.ran bytes (λ x b q k. search (rules, tests)) in
+    rw (c.unwrap_or.ensures, p, rest, found a.byte (drop a.at a.text.now))

@@ -1,6 +1,5 @@
 -- `reason_read::read_reason` meets its contract. Assumes nothing.
 use mathlib.Core.Path.{refl, sym, ◌∙◌}
-use native.Mathlib.Omega.{arith}
 use Rattle.refusals.specs.Table.{table}
 use Rattle.reason_model.specs.Reading.{read_reason}
 use Rattle.reason_model.proofs.Sorts.{sort-found, sort-later, sort-none}
@@ -8,28 +7,25 @@ use Rattle.reason_read.proofs.read_reason.Goals as goal
 
 pub loop-sort-init : goal.loop-sort-init
 unfolding read_reason
-loop-sort-init c = (omega arith, refl)
+loop-sort-init c = refl
 
-pub returns-in-At : goal.returns-in-At
+pub returns-in-Some : goal.returns-in-Some
 unfolding table
-returns-in-At c =
+returns-in-Some c =
     let line = c.args.line.now in
     let l = c.loop-sort in
-    let m = sym c.match_sort-found.ensures ∙ c.in-At.is in
-    rw c.number_at.ensures (sym (sort-found line l.sort c.loop-sort-test.true _ m) ∙ l.invariant.1)
+    rw c.number_at.ensures (sym (sort-found line l.sort c.loop-sort-test.true _ (sym c.in-Some.ensures)) ∙ l.invariant)
 
 pub loop-sort-preserved : goal.loop-sort-preserved
 unfolding table
 loop-sort-preserved c =
     let line = c.args.line.now in
     let l = c.loop-sort in
-    let h = c.loop-sort-test.true in
-    let m = sym c.match_sort-found.ensures ∙ c.in_default.is in
-    (omega (arith, h), sym (sort-later line l.sort h m) ∙ l.invariant.1)
+    sym (sort-later line l.sort c.loop-sort-test.true (sym c.in_default.ensures)) ∙ l.invariant
 
 pub returns : goal.returns
 unfolding table
 returns c =
     let line = c.args.line.now in
     let l = c.loop-sort in
-    sym (sort-none line l.sort (omega (arith, c.loop-sort-test.false))) ∙ l.invariant.1
+    sym (sort-none line l.sort c.loop-sort-test.false) ∙ l.invariant

@@ -1,21 +1,26 @@
 -- `row_answer::decide_named_row` meets its contract. Assumes nothing.
+use Rattle.std.proofs.lemmas.Result.{err_from_is_err_and}
 use mathlib.Core.Path.{ap, ◌∙◌}
-use lib.Seq.{sets}
-use Rattle.row_model.specs.Outcome.{RowOutcome}
 use Rattle.line_table_model.specs.Rows.{row_table}
-use Rattle.plan_model.specs.Plans.{answer, written}
-use Rattle.row_answer_model.specs.Inner.{read_outcome}
-use Rattle.row_answer_model.proofs.Reading.{named-outcome}
+use Rattle.plan_model.specs.Plans.{answer}
+use Rattle.plan_model.proofs.Answered.{refused-answer, refused-put}
+use Rattle.row_answer_model.proofs.Reading.{named_read, named_refused}
 use Rattle.row_answer.proofs.decide_named_row.Goals as goal
+
+pub returns-in_err-read_named_row-clause-value : goal.returns-in_err-read_named_row-clause-value
+returns-in_err-read_named_row-clause-value c =
+    let p = err_from_is_err_and c.from_residual.result c.from_residual.ensures.1 in
+    rw (p.1, p.2) (refused-answer row_table _ _ (named_refused c.args.names.now c.args.row.now _ c.in_err-read_named_row.ensures))
+
+pub returns-in_err-read_named_row-clause-table_after : goal.returns-in_err-read_named_row-clause-table_after
+returns-in_err-read_named_row-clause-table_after c =
+    refused-put row_table _ _ c.args.table.now (named_refused c.args.names.now c.args.row.now _ c.in_err-read_named_row.ensures)
 
 pub returns-clause-value : goal.returns-clause-value
 returns-clause-value c =
-    let a = c.args in
-    let w = c.decide_read.ensures in
-    let e = ap read_outcome c.read_named_row.ensures ∙ named-outcome a.names.now a.row.now in w.value ∙ ap (answer row_table) e
+    c.decide.ensures.value ∙ ap (answer row_table) (named_read c.args.names.now c.args.row.now _ c.in_ok-read_named_row.ensures)
 
 pub returns-clause-table_after : goal.returns-clause-table_after
 returns-clause-table_after c =
-    let a = c.args in
-    let w = c.decide_read.ensures in
-    let e = ap read_outcome c.read_named_row.ensures ∙ named-outcome a.names.now a.row.now in w.table_after ∙ ap (λ (o : RowOutcome). sets a.table.now 0 (written row_table o)) e
+    let e = named_read c.args.names.now c.args.row.now _ c.in_ok-read_named_row.ensures in
+    rw e at c.decide.ensures.table_after

@@ -1,24 +1,27 @@
 -- `row_answer::plan_named_row` meets its contract. Assumes nothing.
+use Rattle.std.proofs.lemmas.Result.{err_from_is_err_and}
 use mathlib.Core.Path.{ap, ◌∙◌}
-use mathlib.Core.Bool.{cond}
-use lib.Dec.{leb}
-use lib.ListN.{length}
-use lib.Seq.{sets}
-use Rattle.row_model.specs.Outcome.{RowOutcome}
+use Rattle.line_table_model.proofs.Decided.{refused-within}
 use Rattle.report_model.specs.Text.{text}
-use Rattle.plan_model.specs.Plans.{answer, written}
-use Rattle.row_answer_model.specs.Inner.{read_outcome}
-use Rattle.row_answer_model.proofs.Reading.{named-outcome}
+use Rattle.plan_model.specs.Plans.{answer}
+use Rattle.plan_model.proofs.Answered.{refused-answer}
+use Rattle.row_answer_model.proofs.Reading.{named_read, named_refused}
 use Rattle.row_answer.proofs.plan_named_row.Goals as goal
+
+pub returns-in_err-read_named_row-clause-value : goal.returns-in_err-read_named_row-clause-value
+returns-in_err-read_named_row-clause-value c =
+    let p = err_from_is_err_and c.from_residual.result c.from_residual.ensures.1 in
+    rw (p.1, p.2) (refused-answer text _ _ (named_refused c.args.names.now c.args.row.now _ c.in_err-read_named_row.ensures))
+
+pub returns-in_err-read_named_row-clause-out_after : goal.returns-in_err-read_named_row-clause-out_after
+returns-in_err-read_named_row-clause-out_after c =
+    refused-within text _ _ c.args.out.now _ (named_refused c.args.names.now c.args.row.now _ c.in_err-read_named_row.ensures)
 
 pub returns-clause-value : goal.returns-clause-value
 returns-clause-value c =
-    let a = c.args in
-    let w = c.plan_read_within.ensures in
-    let e = ap read_outcome c.read_named_row.ensures ∙ named-outcome a.names.now a.row.now in w.value ∙ ap (answer text) e
+    c.plan_within.ensures.value ∙ ap (answer text) (named_read c.args.names.now c.args.row.now _ c.in_ok-read_named_row.ensures)
 
 pub returns-clause-out_after : goal.returns-clause-out_after
 returns-clause-out_after c =
-    let a = c.args in
-    let w = c.plan_read_within.ensures in
-    let e = ap read_outcome c.read_named_row.ensures ∙ named-outcome a.names.now a.row.now in w.out_after ∙ ap (λ (o : RowOutcome). cond (leb c.plan_read_within.result.length (length a.out.now)) (sets a.out.now 0 (written text o)) a.out.now) e
+    let e = named_read c.args.names.now c.args.row.now _ c.in_ok-read_named_row.ensures in
+    rw e at c.plan_within.ensures.out_after

@@ -1,21 +1,26 @@
 -- `row_answer::plan_row` meets its contract. Assumes nothing.
+use Rattle.std.proofs.lemmas.Result.{err_from_is_err_and}
 use mathlib.Core.Path.{ap, ◌∙◌}
-use lib.Seq.{sets}
-use Rattle.row_model.specs.Outcome.{RowOutcome}
 use Rattle.report_model.specs.Text.{text}
-use Rattle.plan_model.specs.Plans.{answer, written}
-use Rattle.row_answer_model.specs.Inner.{read_outcome}
-use Rattle.row_answer_model.proofs.Reading.{row-outcome}
+use Rattle.plan_model.specs.Plans.{answer}
+use Rattle.plan_model.proofs.Answered.{refused-answer, refused-put}
+use Rattle.row_answer_model.proofs.Reading.{row_read, row_refused}
 use Rattle.row_answer.proofs.plan_row.Goals as goal
+
+pub returns-in_err-read_row-clause-value : goal.returns-in_err-read_row-clause-value
+returns-in_err-read_row-clause-value c =
+    let p = err_from_is_err_and c.from_residual.result c.from_residual.ensures.1 in
+    rw (p.1, p.2) (refused-answer text _ _ (row_refused c.args.heading c.args.row.now _ c.in_err-read_row.ensures))
+
+pub returns-in_err-read_row-clause-out_after : goal.returns-in_err-read_row-clause-out_after
+returns-in_err-read_row-clause-out_after c =
+    refused-put text _ _ c.args.out.now (row_refused c.args.heading c.args.row.now _ c.in_err-read_row.ensures)
 
 pub returns-clause-value : goal.returns-clause-value
 returns-clause-value c =
-    let a = c.args in
-    let w = c.plan_read.ensures in
-    let e = ap read_outcome c.read_row.ensures ∙ row-outcome a.heading a.row.now in w.value ∙ ap (answer text) e
+    c.plan_of.ensures.value ∙ ap (answer text) (row_read c.args.heading c.args.row.now _ c.in_ok-read_row.ensures)
 
 pub returns-clause-out_after : goal.returns-clause-out_after
 returns-clause-out_after c =
-    let a = c.args in
-    let w = c.plan_read.ensures in
-    let e = ap read_outcome c.read_row.ensures ∙ row-outcome a.heading a.row.now in w.out_after ∙ ap (λ (o : RowOutcome). sets a.out.now 0 (written text o)) e
+    let e = row_read c.args.heading c.args.row.now _ c.in_ok-read_row.ensures in
+    rw e at c.plan_of.ensures.out_after

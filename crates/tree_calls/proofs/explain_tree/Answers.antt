@@ -3,9 +3,6 @@ use mathlib.Core.Path.{refl, ap, ◌∙◌}
 use native.Mathlib.Omega.{arith}
 use lib.ListN.{replicate}
 use Rattle.buffer.proofs.Putting.{put_front}
-use Rattle.settings_model.specs.declared.Radio.{Radio}
-use Rattle.plan_model.specs.declared.Plan.{Plan}
-use Rattle.plan_model.specs.Plans.{answer}
 use Rattle.settings_model.specs.Checks.{radio}
 use Rattle.tree_read_model.specs.Survey.{outcome_in}
 use Rattle.report_model.specs.TreeText.{tree_text}
@@ -14,7 +11,7 @@ use Rattle.calls_model.specs.declared.Answer.{Answer}
 use Rattle.tree_calls_model.specs.Entries.{check_tree, tree_verdict_line, explain_tree}
 use Rattle.calls_model.proofs.Leaving.{plan-told}
 use Rattle.calls_model.proofs.ReasonLines.{line-again}
-use Rattle.calls_model.proofs.Telling.{number_same, place_same, verdict-same}
+use Rattle.calls_model.proofs.Telling.{number_same, place_same, said-same}
 use Rattle.tree_calls.proofs.explain_tree.Goals as goal
 
 pub returns-clause-out_after : goal.returns-clause-out_after
@@ -24,12 +21,12 @@ returns-clause-out_after c =
     let b = radio a.bo a.so a.head a.payload a.ack a.loss in
     let o = outcome_in a.nodes.now b a.sink in
     let d = c.decide-decided in
-    let q = d.ensures.value ∙ ap (λ (s : Radio). answer tree_table (outcome_in a.nodes.now s a.sink)) c.radio_from-b.ensures in
+    let q = rw (c.radio_from-b.ensures, c.from.ensures) at d.ensures.value in
     let t = plan-told tree_table o d.result q _ c.answer_of-answer.ensures in
     let n = ap (λ (x : Answer). x.number) t ∙ number_same tree_table tree_text o in
     let z = ap (λ (x : Answer). x.place) t ∙ place_same tree_table tree_text o in
     let p = c.put_tree_verdict-n in
-    let v = ap tree_verdict_line (ap (λ (x : Plan). x.verdict) q ∙ verdict-same tree_table tree_text o) in
+    let v = ap tree_verdict_line q ∙ said-same tree_table tree_text tree_verdict_line (λ m n. refl) o in
     let e = put_front p.new.out (replicate 160 0) _ p.result p.ensures.value (omega (arith, p.ensures.upper_bound)) p.ensures.out_after ∙ v in
     let l = rw (e, n, z) at c.leave.ensures in l
 
@@ -40,11 +37,11 @@ returns-clause-read_again c =
     let b = radio a.bo a.so a.head a.payload a.ack a.loss in
     let o = outcome_in a.nodes.now b a.sink in
     let d = c.decide-decided in
-    let q = d.ensures.value ∙ ap (λ (s : Radio). answer tree_table (outcome_in a.nodes.now s a.sink)) c.radio_from-b.ensures in
+    let q = rw (c.radio_from-b.ensures, c.from.ensures) at d.ensures.value in
     let t = plan-told tree_table o d.result q _ c.answer_of-answer.ensures in
     let n = ap (λ (x : Answer). x.number) t ∙ number_same tree_table tree_text o in
     let z = ap (λ (x : Answer). x.place) t ∙ place_same tree_table tree_text o in
     let p = c.put_tree_verdict-n in
-    let v = ap tree_verdict_line (ap (λ (x : Plan). x.verdict) q ∙ verdict-same tree_table tree_text o) in
+    let v = ap tree_verdict_line q ∙ said-same tree_table tree_text tree_verdict_line (λ m n. refl) o in
     let e = put_front p.new.out (replicate 160 0) _ p.result p.ensures.value (omega (arith, p.ensures.upper_bound)) p.ensures.out_after ∙ v in
     let l = rw (e, n, z) at c.leave.ensures in line-again tree_text tree_verdict_line (λ r. refl) o a.out.now _ _ l (omega (arith, c.leave.type_inv))

@@ -6,7 +6,4 @@ use Rattle.tree_plan_model.specs.Children.{LinkedFrom}
 use Rattle.tree_children.proofs.link_children.Given as goal
 
 abbrev pub invariant-loop-w : goal.invariant-loop-w
-invariant-loop-w l = (l.w ≤ 256) × (l.w ≤ length l.parents) × (length l.kin ≡ 768) × (length l.parents ≤ 256 → LinkedFrom l.parents (l.w - 1) l.kin)
-
-abbrev pub decreases-loop-w : goal.decreases-loop-w
-decreases-loop-w l = l.w
+invariant-loop-w l = (length l.kin ≡ 768) × (length l.parents ≤ 256 → LinkedFrom l.parents (l.w - 1) l.kin)

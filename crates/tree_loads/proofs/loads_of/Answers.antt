@@ -1,65 +1,40 @@
 -- `tree_loads::loads_of` meets its contract. Assumes nothing.
-use mathlib.Core.Path.{refl, sym, ◌∙◌}
-use native.Mathlib.Omega.{arith}
-use Rattle.plan_model.proofs.TimesMade.{timing-fits}
-use Rattle.refusals.proofs.Answering.{broken-kept}
-use Rattle.tree_plan_model.proofs.Answers.{before-checked}
-use Rattle.tree_loads.proofs.Holding.{list-first, list-then, few, taken-length, shape-conditions, walk-given, walk-linked, sink-some, sink-listed, held}
+use mathlib.Core.Path.{sym}
+use Rattle.std.proofs.lemmas.Result.{err_from_is_err_and}
+use Rattle.tree_loads.proofs.Holding.{list-first, left-refused, check-refused, check-kept, walk-asked, walk-left}
 use Rattle.tree_loads.proofs.loads_of.Goals as goal
 
-pub returns-in-Broken : goal.returns-in-Broken
-returns-in-Broken c =
+pub returns-in_err-listed : goal.returns-in_err-listed
+returns-in_err-listed c =
     let a = c.args in
-    let r = c.read_list-listed in
-    let e = c.in-Broken.is in
-    let q = e ∙ list-first a.input.now a.b a.sink _ (sym r.ensures.verdict ∙ e) in
-    record { verdict_value = q; loads_left = record { kept = λ k. broken-kept _ (sym e ∙ q ∙ k); refused = λ x z. refl } }
+    let p = err_from_is_err_and c.from_residual.result c.from_residual.ensures.1 in
+    let q = list-first a.input.now a.b a.sink _ (sym c.in_err-listed.ensures.verdict_value) in
+    rw (p.1, p.2) (record { verdict_value = q; loads_left = left-refused a.input.now a.b a.sink _ _ q })
+
+pub returns-in_err-check_before_slots : goal.returns-in_err-check_before_slots
+returns-in_err-check_before_slots c =
+    let a = c.args in
+    let r = c.in_ok-listed in
+    let p = err_from_is_err_and c.from_residual-in_err-check_before_slots.result c.from_residual-in_err-check_before_slots.ensures.1 in
+    let q = check-refused a.input.now (sym r.ensures.verdict_value) r.listed.nodes _ _ _ r.ensures.whole _ c.link_children.ensures.kin_len c.link_children.ensures.linked a.b a.sink _ c.in_err-check_before_slots.ensures in
+    rw (p.1, p.2) (record { verdict_value = q; loads_left = left-refused a.input.now a.b a.sink _ _ q })
 
 pub walk-requires : goal.walk-requires
 walk-requires c =
     let a = c.args in
-    let r = c.read_list-listed in
-    let e = c.in_default.is in
-    let k = sym r.ensures.verdict ∙ e in
-    let w = r.ensures.whole e in
-    let l = taken-length a.input.now k r.result.nodes _ _ _ w in
-    let f = few a.input.now k r.result.nodes _ _ _ w in
-    let linked = c.link_children.ensures.linked (omega (arith, l, f)) in
-    let size = c.link_children.ensures.kin_len in
-    let checked = sym c.check_before_slots-verdict.ensures ∙ c.in-Kept.is in
-    let t = c.timing_of.ensures ∙ timing-fits a.b (before-checked a.b _ a.sink checked) in
-    record {
-      given = walk-given a.input.now k r.result.nodes _ _ _ w _ size linked a.b a.sink checked _ t;
-      linked = walk-linked a.input.now k r.result.nodes _ _ _ w _ size linked a.b a.sink checked _ t;
-      le_sink = sink-some a.input.now k r.result.nodes _ _ _ w _ size linked a.b a.sink checked _ t;
-      sink_in_bounds = sink-listed a.input.now k r.result.nodes _ _ _ w _ size linked a.b a.sink checked _ t;
-    }
+    let r = c.in_ok-listed in
+    let w = walk-asked a.input.now (sym r.ensures.verdict_value) r.listed.nodes _ _ _ r.ensures.whole _ c.link_children.ensures.kin_len c.link_children.ensures.linked a.b a.sink c.in_ok-check_before_slots.ensures _ c.timing_of.ensures in
+    record { given = w.0; linked = w.1; le_sink = w.2; sink_in_bounds = w.3 }
 
-pub returns-in-Kept : goal.returns-in-Kept
-returns-in-Kept c =
+pub returns : goal.returns
+returns c =
     let a = c.args in
-    let r = c.read_list-listed in
-    let e = c.in_default.is in
-    let k = sym r.ensures.verdict ∙ e in
-    let w = r.ensures.whole e in
-    let l = taken-length a.input.now k r.result.nodes _ _ _ w in
-    let f = few a.input.now k r.result.nodes _ _ _ w in
-    let linked = c.link_children.ensures.linked (omega (arith, l, f)) in
-    let size = c.link_children.ensures.kin_len in
-    let checked = sym c.check_before_slots-verdict.ensures ∙ c.in-Kept.is in
-    let t = c.timing_of.ensures ∙ timing-fits a.b (before-checked a.b _ a.sink checked) in
-    let q = c.check_before_slots-verdict.ensures ∙ shape-conditions a.input.now k r.result.nodes _ _ _ w a.b a.sink ∙ list-then a.input.now a.b a.sink k in
+    let r = c.in_ok-listed in
+    let k = sym r.ensures.verdict_value in
+    let w = r.ensures.whole in
+    let t = c.link_children.ensures in
+    let q = c.in_ok-check_before_slots.ensures in
     record {
-      verdict_value = q;
-      loads_left = record { kept = λ z. held a.input.now k r.result.nodes _ _ _ w _ size linked a.b a.sink checked _ t _ c.walk.ensures; refused = λ x z. broken-kept x (sym z ∙ sym q ∙ c.in-Kept.is) };
+      verdict_value = check-kept a.input.now k r.listed.nodes _ _ _ w _ t.kin_len t.linked a.b a.sink q;
+      loads_left = walk-left a.input.now k r.listed.nodes _ _ _ w _ t.kin_len t.linked a.b a.sink q _ c.timing_of.ensures _ _ c.walk.ensures;
     }
-
-pub returns-in_default-verdict : goal.returns-in_default-verdict
-returns-in_default-verdict c =
-    let a = c.args in
-    let r = c.read_list-listed in
-    let e = c.in_default.is in
-    let k = sym r.ensures.verdict ∙ e in
-    let w = r.ensures.whole e in
-    let q = c.check_before_slots-verdict.ensures ∙ shape-conditions a.input.now k r.result.nodes _ _ _ w a.b a.sink ∙ list-then a.input.now a.b a.sink k in
-    record { verdict_value = q; loads_left = record { kept = λ z. broken-kept _ (sym c.in_default-verdict.is ∙ q ∙ z); refused = λ x z. refl } }

@@ -1,12 +1,10 @@
--- What the loops of `tree_print::printed_length` keep. Assumes nothing.
+-- What the loop of `tree_print::printed_length` keeps: `end` is the length of the text of the lines so far. Assumes nothing.
 use mathlib.Core.Path.{◌≡◌}
-use Prim.Native.Nat.{◌+◌, ◌*◌, ◌-◌, ◌≤◌}
+use Prim.Native.Nat.{◌+◌, ◌*◌, ◌≤◌}
 use lib.ListN.{length}
-use Rattle.tree_print.proofs.Paging.{behind}
+use Rattle.report_model.specs.TreeText.{tree_text}
+use Rattle.node_table_model.specs.NodeRows.{nodes_in}
 use Rattle.tree_print.proofs.printed_length.Given as goal
 
 abbrev pub invariant-loop-v : goal.invariant-loop-v
-invariant-loop-v l = (l.v ≤ l.n) × (l.end ≤ 62 + 191 * l.v) × (l.end ≡ 62 + length (behind l.table l.v))
-
-abbrev pub decreases-loop-v : goal.decreases-loop-v
-decreases-loop-v l = l.n - l.v
+invariant-loop-v l = (l.end ≤ 62 + 191 * l.v) × (l.end ≡ length (tree_text (nodes_in l.table l.v)))

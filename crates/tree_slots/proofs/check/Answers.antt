@@ -1,30 +1,27 @@
 -- `tree_slots::check` meets its contract. Assumes nothing.
 use mathlib.Core.Path.{sym, ◌∙◌}
-use native.Mathlib.Omega.{arith}
-use lib.Seq.{length-take-le}
-use borrow.Author.Rules.{rules}
-use Rattle.tree_plan_model.specs.Stages.{LoadsHeld}
-use Rattle.tree_plan_model.proofs.Tabled.{few-held, room-held}
+use Rattle.std.proofs.lemmas.Result.{err_from_is_err_and}
 use Rattle.tree_slots.proofs.Stages.{before-broken, loaded-held, slots_next}
 use Rattle.tree_slots.proofs.check.Goals as goal
 
-pub returns-in-Broken-clause-verdict_value : goal.returns-in-Broken-clause-verdict_value
-returns-in-Broken-clause-verdict_value c =
+pub returns-in_err-stage : goal.returns-in_err-stage
+returns-in_err-stage c =
     let x = c.args in
-    let r = c.loads_of-loads in
-    let e = c.in-Broken.is in e ∙ before-broken x.input.now x.b x.sink _ (sym r.ensures.verdict_value ∙ e)
+    let p = err_from_is_err_and c.from_residual.result c.from_residual.ensures.1 in
+    let e = c.in_err-stage.ensures in
+    rw (p.1, p.2) (record { verdict_value = before-broken x.input.now x.b x.sink _ (sym e.verdict_value); loads_left = e.loads_left })
 
-pub slots_fit-verdict-requires-clause-loaded : goal.slots_fit-verdict-requires-clause-loaded
-slots_fit-verdict-requires-clause-loaded c =
-    let x = c.args in
-    let held : LoadsHeld x.input.now x.b x.sink c.loads_of-loads.result.nodes c.loads_of-loads.result.kin c.loads_of-loads.new.notes =
-    c.loads_of-loads.ensures.loads_left.kept (sym c.loads_of-loads.ensures.verdict_value ∙ c.in_default.is) in
-    loaded-held _ _ _ _ _ _ held _ c.timing_of.ensures
+pub slots_fit-requires-clause-loaded : goal.slots_fit-requires-clause-loaded
+slots_fit-requires-clause-loaded c = loaded-held _ _ _ _ _ _ c.in_ok-stage.ensures.loads_left.held _ c.timing_of.ensures
 
-pub returns-clause-verdict_value : goal.returns-clause-verdict_value
-returns-clause-verdict_value c =
-    let r = c.loads_of-loads in
-    let x = c.args in
-    let held : LoadsHeld x.input.now x.b x.sink c.loads_of-loads.result.nodes c.loads_of-loads.result.kin c.loads_of-loads.new.notes =
-    c.loads_of-loads.ensures.loads_left.kept (sym c.loads_of-loads.ensures.verdict_value ∙ c.in_default.is) in
-    slots_next _ _ _ _ _ _ held _ c.timing_of.ensures _ (sym r.ensures.verdict_value ∙ c.in_default.is) c.slots_fit-verdict.ensures
+pub returns-in_err-slots_fit : goal.returns-in_err-slots_fit
+returns-in_err-slots_fit c =
+    let k = c.in_ok-stage.ensures in
+    let p = err_from_is_err_and c.from_residual-in_err-slots_fit.result c.from_residual-in_err-slots_fit.ensures.1 in
+    let q = slots_next _ _ _ _ _ _ k.loads_left.held _ c.timing_of.ensures (sym k.verdict_value) in
+    rw (p.1, p.2) (record { verdict_value = c.in_err-slots_fit.ensures ∙ q; loads_left = record { held = tt; kept = k.loads_left.kept; refused = k.loads_left.refused } })
+
+pub returns : goal.returns
+returns c =
+    let k = c.in_ok-stage.ensures in
+    record { verdict_value = c.in_ok-slots_fit.ensures ∙ slots_next _ _ _ _ _ _ k.loads_left.held _ c.timing_of.ensures (sym k.verdict_value); loads_left = k.loads_left }

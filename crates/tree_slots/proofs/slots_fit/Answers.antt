@@ -1,5 +1,4 @@
 -- `tree_slots::slots_fit` meets its contract. Assumes nothing.
-use mathlib.Core.Path.{refl}
 use Rattle.tree_slots.proofs.Fitting.{routers-counted}
 use Rattle.tree_slots.proofs.slots_fit.Goals as goal
 

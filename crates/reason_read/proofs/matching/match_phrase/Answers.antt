@@ -1,35 +1,22 @@
 -- `reason_read::matching::match_phrase` meets its contract. Assumes nothing.
 use mathlib.Core.Path.{sym, ◌∙◌}
-use native.Mathlib.Omega.{arith}
-use Rattle.reason_model.proofs.Following.{followed-more, followed-nowhere, followed-all, followed-past}
+use Rattle.reason_model.proofs.Following.{followed-more, followed-nowhere, followed-all}
 use Rattle.reason_read.proofs.matching.match_phrase.Goals as goal
 
-pub returns-in_default : goal.returns-in_default
-returns-in_default c =
-    let a = c.args in
-    let l = c.loop-k in
-    let h = c.loop-k-test.true in
-    let e = c.part_end-end in
-    let m = c.meaning-found in
-    followed-nowhere a.line.now a.phrase.now a.place l.place l.at l.k l.invariant h e.result e.ensures.value (sym m.ensures ∙ c.in_default.is)
+pub returns-in_err-place : goal.returns-in_err-place
+returns-in_err-place c =
+    let l = c.loop-part in
+    let s = c.split_at.ensures in
+    let n = followed-nowhere c.args.phrase.now l.rest.now l.place l.part-index c.loop-part-test.true c.extent.result c.extent.ensures.value (rw s.front at (sym c.in_err-place.ensures)) in
+    c.from_residual.ensures ∙ n ∙ l.invariant
 
-pub loop-k-preserved : goal.loop-k-preserved
-loop-k-preserved c =
-    let a = c.args in
-    let l = c.loop-k in
-    let h = c.loop-k-test.true in
-    let e = c.part_end-end in
-    let m = c.meaning-found in
-    followed-more a.line.now a.phrase.now a.place l.place l.at l.k l.invariant h e.result e.ensures.value _ e.ensures.upper_bound (sym m.ensures ∙ c.in-At.is)
-
-pub returns-then-at-line : goal.returns-then-at-line
-returns-then-at-line c =
-    let a = c.args in
-    let l = c.loop-k in
-    followed-past a.line.now a.phrase.now a.place l.place l.at l.k l.invariant (omega (arith, c.loop-k-test.false)) (omega (arith, c.if-at-line.true))
+pub loop-part-preserved : goal.loop-part-preserved
+loop-part-preserved c =
+    let l = c.loop-part in
+    let s = c.split_at.ensures in
+    rw s.back (followed-more c.args.phrase.now l.rest.now l.place l.part-index c.loop-part-test.true c.extent.result c.extent.ensures.value c.in_ok-place.place (rw s.front at (sym c.in_ok-place.ensures)) ∙ l.invariant)
 
 pub returns : goal.returns
 returns c =
-    let a = c.args in
-    let l = c.loop-k in
-    followed-all a.line.now a.phrase.now a.place l.place l.at l.k l.invariant (omega (arith, c.loop-k-test.false)) (omega (arith, c.if-at-line.false))
+    let l = c.loop-part in
+    c.then_some.ensures ∙ rw c.is_empty.ensures (followed-all c.args.phrase.now l.rest.now l.place l.part-index c.loop-part-test.false) ∙ l.invariant

@@ -1,11 +1,11 @@
--- What the loops of `reason_read::matching::match_phrase` keep. Assumes nothing.
-use Prim.Native.Nat.{◌-◌}
-use lib.ListN.{length}
-use Rattle.reason_model.proofs.Following.{Followed}
+-- What the loop of `reason_read::matching::match_phrase` keeps. Assumes nothing.
+use mathlib.Core.Path.{◌≡◌}
+use mathlib.Core.List.{map}
+use lib.ListN.{drop}
+use Rattle.std.specs.Prelude.{Some}
+use Rattle.reason_model.specs.Reasons.{part_of}
+use Rattle.reason_model.specs.Reading.{matched}
 use Rattle.reason_read.proofs.matching.match_phrase.Given as goal
 
-abbrev pub invariant-loop-k : goal.invariant-loop-k
-invariant-loop-k l = Followed l.line l.phrase l.place-2 l.place l.at l.k
-
-abbrev pub decreases-loop-k : goal.decreases-loop-k
-decreases-loop-k l = length l.phrase - l.k
+abbrev pub invariant-loop-part : goal.invariant-loop-part
+invariant-loop-part l = matched (map part_of (drop l.part-index l.phrase)) (Some l.place) l.rest ≡ matched (map part_of l.phrase) (Some l.fn.place) l.fn.line

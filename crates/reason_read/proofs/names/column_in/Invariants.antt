@@ -1,13 +1,10 @@
--- What the loops of `reason_read::names::column_in` keep. Assumes nothing.
+-- What the loop of `reason_read::names::column_in` keeps. Assumes nothing.
 use mathlib.Core.Path.{◌≡◌}
-use Prim.Native.Nat.{suc, ◌-◌, ◌≤◌}
+use Prim.Native.Nat.{◌-◌}
 use lib.ListN.{drop}
 use Rattle.settings_model.specs.Columns.{every_column}
 use Rattle.reason_model.specs.Reading.{place_in, column_from, unnamed, column_in}
 use Rattle.reason_read.proofs.names.column_in.Given as goal
 
-abbrev pub invariant-loop-k : goal.invariant-loop-k
-invariant-loop-k l = (l.k ≤ 13) × (column_from (unnamed (place_in l.word)) (suc l.k) (drop l.k every_column) l.word ≡ column_in l.word)
-
-abbrev pub decreases-loop-k : goal.decreases-loop-k
-decreases-loop-k l = 13 - l.k
+abbrev pub invariant-loop-column : goal.invariant-loop-column
+invariant-loop-column l = column_from (unnamed (place_in l.word)) l.column (drop (l.column - 1) every_column) l.word ≡ column_in l.word

@@ -9,4 +9,4 @@ pub returns-clause-table_after : goal.returns-clause-table_after
 returns-clause-table_after c =
     let p = c.requires in
     let w = c.put_next.ensures in
-    let l = sink-line-made c.args.s c.args.arriving c.args.interval c.args.w.delay _ p.interval_value p.arriving_value p.delay_value c.whole_frames-buffer.ensures in w.table_after ∙ ap (λ (x : Line). pushed (page c.args.w c.args.table.now) x) l
+    let l = sink-line-made c.args.row.now.s _ _ c.args.w.delay _ p.held.links.interval p.held.links.arriving p.delay_value c.whole_frames.ensures in w.table_after ∙ ap (λ (x : Line). pushed (page c.args.w c.args.table.now) x) l

@@ -1,70 +1,59 @@
 -- `row_read::values::read_values` meets its contract. Assumes nothing.
-use mathlib.Core.Path.{◌≡◌, refl, sym, ◌∙◌}
+use Rattle.std.proofs.Common.{rules, tests}
+use Rattle.std.proofs.lemmas.Result.{err_from_is_err_and}
+use mathlib.Core.Path.{refl, sym, ◌∙◌}
 use native.Mathlib.Omega.{arith}
-use lib.ListN.{length}
 use Rattle.row_read_model.specs.Names.{columns_under}
-use Rattle.row_read_model.proofs.Taking.{zeros-read, taken_none, taken-missing, taken-unreadable, taken-value, taken-after, taken-all, taken-settings}
+use Rattle.row_read_model.proofs.Taking.{zeros-read, taken_none, taken-unreadable, taken-value, taken-after, taken-all, taken-settings}
+use Rattle.row_read.proofs.Parting.{values_left, all_left, no-more, some-more, number-next, others-left, or-error, or-value}
 use Rattle.row_read.proofs.values.read_values.Goals as goal
 
 pub loop-k-init : goal.loop-k-init
-loop-k-init c = λ cs e. taken_none cs c.args.row.now _ refl zeros-read
+loop-k-init c = λ cs e. taken_none cs c.args.row.now _ _ (all_left c.split-values.result c.args.row.now c.split-values.ensures.rest c.split-values.ensures.done) refl zeros-read
 
-pub returns-then-row-at-clause-verdict_value : goal.returns-then-row-at-clause-verdict_value
-returns-then-row-at-clause-verdict_value c =
+pub returns-in_err-numbers-clause-verdict_value : goal.returns-in_err-numbers-clause-verdict_value
+returns-in_err-numbers-clause-verdict_value c =
     let l = c.loop-k in
     let k = c.column_count-columns.ensures in
-    let row = c.args.row.now in
     let cs = columns_under c.args.heading in
-    let e = taken-missing cs (omega (arith, k.value, k.upper_bound)) row l.numbers l.at l.k (l.invariant cs k.value) (omega (arith, k.value, c.loop-k-test.true)) (omega (arith, c.if-row-at.true)) in
-    let u = c.unreadable.ensures in u ∙ sym e
-
-pub returns-in_default-clause-verdict_value : goal.returns-in_default-clause-verdict_value
-returns-in_default-clause-verdict_value c =
-    let l = c.loop-k in
-    let k = c.column_count-columns.ensures in
-    let row = c.args.row.now in
-    let cs = columns_under c.args.heading in
-    let end = c.find-end.result in
-    let f = c.find-end.ensures.place in
-    let n = sym c.read_number-number.ensures ∙ c.in_default.is in
-    let e = taken-unreadable cs (omega (arith, k.value, k.upper_bound)) row l.numbers l.at l.k (l.invariant cs k.value) (omega (arith, k.value, c.loop-k-test.true)) c.if-row-at.false end f n in
-    let u = c.unreadable-in_default.ensures in u ∙ sym e
+    let p = err_from_is_err_and c.from_residual.result c.from_residual.ensures.1 in
+    let m = or-error c.and_then-value.result _ _ c.in_err-numbers.ensures.value in
+    let n = number-next _ l.values c.next.new.self (λ x b q w. search (rules, tests)) c.next.result c.and_then-value.result c.next.ensures.steps c.and_then-value.ensures in
+    rw (p.1, p.2, m.1) (sym (taken-unreadable cs c.args.row.now l.numbers l.k (values_left l.values) (l.invariant cs k.value) (omega (arith, k.value, c.loop-k-test.true)) (sym n ∙ m.0)))
 
 pub loop-k-preserved : goal.loop-k-preserved
 loop-k-preserved c =
     let l = c.loop-k in
     let k = c.column_count-columns.ensures in
-    let row = c.args.row.now in
-    let end = c.find-end.result in
-    let f = c.find-end.ensures.place in
-    let n = sym c.read_number-number.ensures ∙ c.in-Value.is in
-    λ cs e. taken-value cs (omega (arith, e, k.upper_bound)) row l.numbers l.at l.k (l.invariant cs e) (omega (arith, e, c.loop-k-test.true)) c.if-row-at.false end f _ n
+    let m = or-value c.and_then-value.result _ _ c.in_ok-numbers.ensures.value in
+    let n = number-next _ l.values c.next.new.self (λ x b q w. search (rules, tests)) c.next.result c.and_then-value.result c.next.ensures.steps c.and_then-value.ensures in
+    let o = others-left _ l.values c.next.new.self (λ x b q w. search (rules, tests)) c.next.result c.and_then-value.result _ c.next.ensures.steps c.and_then-value.ensures m in
+    λ cs e. rw o (taken-value cs c.args.row.now l.numbers l.k (values_left l.values) (l.invariant cs e) (omega (arith, e, k.upper_bound)) (omega (arith, e, c.loop-k-test.true)) _ (sym n ∙ m))
 
-pub returns-then-at-row-clause-verdict_value : goal.returns-then-at-row-clause-verdict_value
-returns-then-at-row-clause-verdict_value c =
+pub returns-then-is_some-clause-verdict_value : goal.returns-then-is_some-clause-verdict_value
+returns-then-is_some-clause-verdict_value c =
     let l = c.loop-k in
     let k = c.column_count-columns.ensures in
-    let row = c.args.row.now in
     let cs = columns_under c.args.heading in
     let t = l.invariant cs k.value in
-    let e = taken-after cs (omega (arith, k.value, k.upper_bound)) row l.numbers l.at l.k t (omega (arith, t.few, k.value, c.loop-k-test.false)) (omega (arith, c.if-at-row.true)) in
-    let u = c.text_after.ensures in
-    let u' = rw k.value at u in u' ∙ sym e
+    let m = some-more _ l.values c.next-2.new.self (λ x b q w. search (rules, tests)) c.next-2.result c.next-2.ensures.steps (sym c.is_some.ensures ∙ c.if-is_some.true) in
+    let e = taken-after cs c.args.row.now l.numbers l.k (values_left l.values) t m (omega (arith, t.few, k.value, c.loop-k-test.false)) in
+    rw k.value (sym e)
 
 pub returns-clause-verdict_value : goal.returns-clause-verdict_value
 returns-clause-verdict_value c =
     let l = c.loop-k in
     let k = c.column_count-columns.ensures in
-    let row = c.args.row.now in
     let cs = columns_under c.args.heading in
     let t = l.invariant cs k.value in
-    let all : l.k ≡ length cs = omega (arith, t.few, k.value, c.loop-k-test.false) in sym (taken-all cs (omega (arith, k.value, k.upper_bound)) row l.numbers l.at l.k t all (omega (arith, c.if-at-row.false)))
+    let n = no-more _ l.values c.next-2.new.self c.next-2.result c.next-2.ensures.steps (sym c.is_some.ensures ∙ c.if-is_some.false) in
+    sym (taken-all cs c.args.row.now l.numbers l.k (values_left l.values) t n (omega (arith, t.few, k.value, c.loop-k-test.false)))
 
 pub returns-clause-numbers_value : goal.returns-clause-numbers_value
 returns-clause-numbers_value c =
     let l = c.loop-k in
     let k = c.column_count-columns.ensures in
-    let row = c.args.row.now in
     let cs = columns_under c.args.heading in
     let t = l.invariant cs k.value in
-    let all : l.k ≡ length cs = omega (arith, t.few, k.value, c.loop-k-test.false) in λ kept. taken-settings cs (omega (arith, k.value, k.upper_bound)) row l.numbers l.at l.k t all (omega (arith, c.if-at-row.false))
+    let n = no-more _ l.values c.next-2.new.self c.next-2.result c.next-2.ensures.steps (sym c.is_some.ensures ∙ c.if-is_some.false) in
+    taken-settings cs c.args.row.now l.numbers l.k (values_left l.values) t n (omega (arith, t.few, k.value, c.loop-k-test.false))

@@ -11,23 +11,21 @@ use Rattle.settings.proofs.columns.in_range.Goals as goal
 pub returns-then-not-fits : goal.returns-then-not-fits
 returns-then-not-fits c =
     let a = c.args in
-    let l = c.loop-k in
-    let h = c.loop-k-test.true in
+    let k = c.loop-k.k in
     let e = sym c.fits.ensures ∙ c.if-not-fits.true in
-    rw (c.outside.ensures, l.invariant.1, add-one) (sym (ranged-out a.before l.k a.numbers.now h e))
+    rw (c.loop-k.invariant, add-one) (sym (ranged-out a.before k a.numbers.now c.loop-k-test.true e))
 
 pub loop-k-preserved : goal.loop-k-preserved
 loop-k-preserved c =
     let a = c.args in
     let l = c.loop-k in
-    let h = c.loop-k-test.true in
     let e = sym c.fits.ensures ∙ c.if-not-fits.false in
-    (omega (arith, h), rw (add-one, add-suc) (l.invariant.1 ∙ ranged-in a.before l.k a.numbers.now h e))
+    rw (add-one, add-suc) (l.invariant ∙ ranged-in a.before l.k a.numbers.now c.loop-k-test.true e)
 
 pub returns : goal.returns
 returns c =
     let a = c.args in
     let l = c.loop-k in
-    let z : l.k ≡ length a.numbers.now = omega (arith, l.invariant.0, c.loop-k-test.false) in
-    let e = rw z at l.invariant.1 in
+    let z : l.k ≡ length a.numbers.now = omega (arith, c.loop-k-test.false) in
+    let e = rw z at l.invariant in
     sym (e ∙ ranged-all (a.before + length a.numbers.now) a.numbers.now)

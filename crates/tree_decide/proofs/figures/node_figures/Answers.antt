@@ -5,5 +5,5 @@ use Rattle.tree_decide.proofs.figures.node_figures.Goals as goal
 pub returns-then-v-sink : goal.returns-then-v-sink
 returns-then-v-sink c = figures-at-sink c.args.t c.args.sink c.args.v c.args.load _ c.if-v-sink.true c.sink_figures.ensures
 
-pub returns : goal.returns
-returns c = figures-elsewhere c.args.t c.args.sink c.args.v c.args.load _ c.if-v-sink.false (c.link_figures.ensures c.requires)
+pub returns-else-v-sink : goal.returns-else-v-sink
+returns-else-v-sink c = figures-elsewhere c.args.t c.args.sink c.args.v c.args.load _ c.if-v-sink.false (c.link_figures.ensures c.requires)

@@ -28,8 +28,8 @@ returns-then-is_router c =
     let r = router-in x.parents.now x.kin.now q.linked x.v q.v_in_bounds (omega (arith, q.parents_len_bound)) in
     kind-up x.parents.now x.notes.now x.sink q.led x.v q.le_v q.v_in_bounds c.if-v-sink.false h (sym r ∙ sym c.is_router.ensures ∙ c.if-is_router.true)
 
-pub returns : goal.returns
-returns c =
+pub returns-else-is_router : goal.returns-else-is_router
+returns-else-is_router c =
     let x = c.args in
     let q = c.requires in
     let e = c.towards_at.ensures ∙ towards-noted x.notes.now x.v (omega (arith, q.parents_len_bound, q.v_in_bounds)) in

@@ -31,4 +31,4 @@ returns c =
     let q = c.requires in
     let low : x.v < 256 = omega (arith, q.loaded.few, q.v_in_bounds) in
     let w : c.way_at.result.0 ≡ get_or x.ways.now x.v 0 = ap (λ (y : Symbols). y.0) c.way_at.ensures ∙ rw (lt-ltb x.v 256 low) in
-    line_made x.t x.parents.now x.notes.now x.sink x.v _ _ _ _ _ _ c.kind_of-kind.ensures (c.wide-depth.ensures ∙ q.depths_set.each x.v q.le_v q.v_in_bounds) load-at-node c.node_figures-figures.ensures (w ∙ q.ways_set.each x.v q.le_v q.v_in_bounds) c.route_with-route.ensures
+    line_made x.t x.parents.now x.notes.now x.sink x.v _ _ _ _ _ _ c.kind_of-kind.ensures (c.from-depth.ensures ∙ q.depths_set.each x.v q.le_v q.v_in_bounds) load-at-node c.node_figures-figures.ensures (w ∙ q.ways_set.each x.v q.le_v q.v_in_bounds) c.route_with-route.ensures

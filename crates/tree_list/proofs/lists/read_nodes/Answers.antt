@@ -1,42 +1,35 @@
 -- `tree_list::lists::read_nodes` meets its contract. Assumes nothing.
-use mathlib.Core.Path.{◌≡◌, sym, ap, ◌∙◌}
-use Prim.Native.Nat.{◌+◌}
+use mathlib.Core.Path.{sym}
 use native.Mathlib.Omega.{arith}
-use Rattle.lines.specs.declared.Line.TheVariants.{Found}
-use Rattle.lines.specs.Text.{line_at, part_of}
-use Rattle.tree_read_model.specs.Entries.{line_right}
 use Rattle.lines.proofs.LawsHold.{found-advances}
-use Rattle.tree_list.proofs.Reading.{taken_as, turn_end, turn_more, turn-broken}
+use Rattle.tree_list.proofs.Reading.{turn-none-left, turn-end, turn_more, turn-broken}
 use Rattle.tree_list.proofs.lists.read_nodes.Goals as goal
 
-pub returns-in_default : goal.returns-in_default
-returns-in_default c =
-    let a = c.args in
-    let l = c.loop-start in
-    rw c.finished.ensures (turn_end a.input.now a.from l.k l.at l.parents l.bursts l.rates l.invariant (sym c.next_line-line.ensures ∙ c.in_default.is))
-
-pub loop-start-smaller : goal.loop-start-smaller
-loop-start-smaller c =
-    let a = c.args in
-    let l = c.loop-start in
-    let found : line_at a.input.now l.at ≡ Found c.in-Found.start c.in-Found.end c.in-Found.next = sym c.next_line-line.ensures ∙ c.in-Found.is in
-    let n = found-advances a.input.now l.at c.in-Found.start c.in-Found.end c.in-Found.next found in
+pub loop-line-smaller : goal.loop-line-smaller
+loop-line-smaller c =
+    let f = c.in-Some.line in
+    let n = found-advances c.args.input.now c.loop-line.cursor.at f.start f.end f.next (sym c.in-Some.ensures) in
     omega (arith, n.forward, n.next_within)
 
-pub loop-start-preserved : goal.loop-start-preserved
-loop-start-preserved c =
-    let a = c.args in
-    let l = c.loop-start in
-    let found : line_at a.input.now l.at ≡ Found c.in-Found.start c.in-Found.end c.in-Found.next = sym c.next_line-line.ensures ∙ c.in-Found.is in
-    let line : c.part.result.now ≡ part_of a.input.now c.in-Found.start c.in-Found.end = c.part.ensures in
+pub loop-line-preserved : goal.loop-line-preserved
+loop-line-preserved c =
+    let l = c.loop-line in
+    let f = c.in-Some.line in
     let n = c.take_node in
-    turn_more a.input.now a.from l.k l.at l.parents l.bursts l.rates l.invariant c.in-Found.start c.in-Found.end c.in-Found.next found n.new.parents n.new.bursts n.new.rates (taken_as _ _ _ _ _ _ _ _ _ _ n.ensures c.if-take_node.true line)
+    turn_more c.args.input.now _ l.k l.cursor.at _ _ _ l.invariant f.start f.end f.next (sym c.in-Some.ensures) n.new.parents n.new.bursts n.new.rates (rw c.part.ensures at c.if-not-take_node.ensures)
 
-pub returns-else-take_node : goal.returns-else-take_node
-returns-else-take_node c =
-    let a = c.args in
-    let l = c.loop-start in
-    let found : line_at a.input.now l.at ≡ Found c.in-Found.start c.in-Found.end c.in-Found.next = sym c.next_line-line.ensures ∙ c.in-Found.is in
-    let line : c.part.result.now ≡ part_of a.input.now c.in-Found.start c.in-Found.end = c.part.ensures in
-    let n = c.take_node in
-    turn-broken a.input.now a.from l.k l.at l.parents l.bursts l.rates l.invariant c.in-Found.start c.in-Found.end c.in-Found.next found c.broken.result _ _ _ (ap (line_right (l.k + 1)) (sym line) ∙ sym n.ensures.right ∙ c.if-take_node.false) c.broken.ensures
+pub returns-then-not-take_node : goal.returns-then-not-take_node
+returns-then-not-take_node c =
+    let l = c.loop-line in
+    let f = c.in-Some.line in
+    turn-broken c.args.input.now _ l.k l.cursor.at _ _ _ l.invariant f.start f.end f.next (sym c.in-Some.ensures) _ _ _ (sym (rw c.part.ensures at c.if-not-take_node.ensures.right))
+
+pub returns-then-k-eq0 : goal.returns-then-k-eq0
+returns-then-k-eq0 c =
+    let l = c.loop-line in
+    turn-none-left c.args.input.now _ l.k l.cursor.at _ _ _ l.invariant (sym c.in_default.ensures) c.if-k-eq0.true
+
+pub returns : goal.returns
+returns c =
+    let l = c.loop-line in
+    turn-end c.args.input.now _ l.k l.cursor.at _ _ _ l.invariant (sym c.in_default.ensures) c.if-k-eq0.false

@@ -1,5 +1,5 @@
 -- `tree_loads::walk::sensor_load` meets its contract. Assumes nothing.
-use mathlib.Core.Path.{refl, ◌∙◌}
+use mathlib.Core.Path.{◌∙◌}
 use Prim.Native.Nat.{◌*◌, ◌≤◌, ◌<◌}
 use native.Mathlib.Nat.{mul-le-mul}
 use native.Mathlib.Omega.{arith}
@@ -15,4 +15,4 @@ returns c =
     let a = c.args in
     let own : a.own < 256 = search rules in
     let few : a.own * a.t.interval.0 ≤ 255 * 15728640 = (let low : a.own ≤ 255 = omega arith in mul-le-mul low c.requires) in
-    load_of _ _ _ _ refl (c.burst_of.ensures ∙ up_to_fits (omega (arith, few, burst-is (frames a.own) a.t.interval)))
+    load_of _ _ _ _ c.from.ensures ((rw c.from-2.ensures at c.burst_of.ensures) ∙ up_to_fits (omega (arith, few, burst-is (frames a.own) a.t.interval)))

@@ -1,44 +1,80 @@
 -- `tree_read::fields::read_node` meets its contract. Assumes nothing.
-use mathlib.Core.Path.{refl, sym, ◌∙◌}
-use native.Mathlib.Omega.{arith}
-use Rattle.tree_read_model.proofs.Taking.{taken_none, taken-missing, taken-unreadable, taken-value, taken-after, taken-all, finished}
+use Rattle.std.proofs.Common.{rules, tests}
+use Rattle.tree_read.proofs.Values.{left_all, missing, unreadable, read, behind, whole}
 use Rattle.tree_read.proofs.fields.read_node.Goals as goal
 
-pub loop-k-init : goal.loop-k-init
-loop-k-init c = taken_none c.args.line.now _ refl
+pub returns-in_err-node : goal.returns-in_err-node
+returns-in_err-node c =
+    rw c.from_residual-in_err-node.ensures (unreadable _ _ c.next.new.self (left_all _ _ c.args.line.now c.map-values.ensures.source c.map-values.ensures.closure c.split.ensures.rest c.split.ensures.done c.split.ensures.closure (λ x b q k. search (rules, tests)) (λ x r q k. search rules)) c.in_ok-next.ensures.steps c.in_err-node.was)
 
-pub returns-then-line-at : goal.returns-then-line-at
-returns-then-line-at c =
-    let l = c.loop-k in
-    let line = c.args.line.now in
-    taken-missing line l.numbers l.at l.k l.invariant c.loop-k-test.true (omega (arith, c.if-line-at.true))
+pub returns-in_err-next-2 : goal.returns-in_err-next-2
+returns-in_err-next-2 c =
+    rw c.from_residual-in_err-next-2.ensures (missing _ _ c.next-2.new.self (read _ _ c.next.new.self
+    (left_all _ _ c.args.line.now c.map-values.ensures.source c.map-values.ensures.closure c.split.ensures.rest c.split.ensures.done c.split.ensures.closure (λ x b q k. search (rules, tests)) (λ x r q k. search rules))
+    c.in_ok-next.ensures.steps c.in_ok-node.was) c.in_err-next-2.ensures.steps)
 
-pub returns-in_default : goal.returns-in_default
-returns-in_default c =
-    let l = c.loop-k in
-    let line = c.args.line.now in
-    let end = c.find-end.result in
-    let f = c.find-end.ensures.place in
-    let n = sym c.read_number-number.ensures ∙ c.in_default.is in
-    taken-unreadable line l.numbers l.at l.k l.invariant c.loop-k-test.true c.if-line-at.false end f n
+pub returns-in_err-parent : goal.returns-in_err-parent
+returns-in_err-parent c =
+    rw c.from_residual-in_err-parent.ensures (unreadable _ _ c.next-2.new.self (read _ _ c.next.new.self
+    (left_all _ _ c.args.line.now c.map-values.ensures.source c.map-values.ensures.closure c.split.ensures.rest c.split.ensures.done c.split.ensures.closure (λ x b q k. search (rules, tests)) (λ x r q k. search rules))
+    c.in_ok-next.ensures.steps c.in_ok-node.was) c.in_ok-next-2.ensures.steps c.in_err-parent.was)
 
-pub loop-k-preserved : goal.loop-k-preserved
-loop-k-preserved c =
-    let l = c.loop-k in
-    let line = c.args.line.now in
-    let end = c.find-end.result in
-    let f = c.find-end.ensures.place in
-    let n = sym c.read_number-number.ensures ∙ c.in-Value.is in
-    taken-value line l.numbers l.at l.k l.invariant c.loop-k-test.true c.if-line-at.false end f _ n
+pub returns-in_err-next-3 : goal.returns-in_err-next-3
+returns-in_err-next-3 c =
+    rw c.from_residual-in_err-next-3.ensures (missing _ _ c.next-3.new.self (read _ _ c.next-2.new.self
+    (read _ _ c.next.new.self
+    (left_all _ _ c.args.line.now c.map-values.ensures.source c.map-values.ensures.closure c.split.ensures.rest c.split.ensures.done c.split.ensures.closure (λ x b q k. search (rules, tests)) (λ x r q k. search rules))
+    c.in_ok-next.ensures.steps c.in_ok-node.was)
+    c.in_ok-next-2.ensures.steps c.in_ok-parent.was) c.in_err-next-3.ensures.steps)
 
-pub returns-then-at-line : goal.returns-then-at-line
-returns-then-at-line c =
-    let l = c.loop-k in
-    let line = c.args.line.now in
-    taken-after line l.numbers l.at l.k l.invariant (omega (arith, l.invariant.few)) (omega (arith, c.if-at-line.true))
+pub returns-in_err-burst : goal.returns-in_err-burst
+returns-in_err-burst c =
+    rw c.from_residual-in_err-burst.ensures (unreadable _ _ c.next-3.new.self (read _ _ c.next-2.new.self
+    (read _ _ c.next.new.self
+    (left_all _ _ c.args.line.now c.map-values.ensures.source c.map-values.ensures.closure c.split.ensures.rest c.split.ensures.done c.split.ensures.closure (λ x b q k. search (rules, tests)) (λ x r q k. search rules))
+    c.in_ok-next.ensures.steps c.in_ok-node.was)
+    c.in_ok-next-2.ensures.steps c.in_ok-parent.was) c.in_ok-next-3.ensures.steps c.in_err-burst.was)
 
-pub returns : goal.returns
-returns c =
-    let l = c.loop-k in
-    let line = c.args.line.now in
-    finished l.numbers l.invariant.size ∙ taken-all line l.numbers l.at l.k l.invariant (omega (arith, l.invariant.few)) (omega (arith, c.if-at-line.false))
+pub returns-in_err-next-4 : goal.returns-in_err-next-4
+returns-in_err-next-4 c =
+    rw c.from_residual-in_err-next-4.ensures (missing _ _ c.next-4.new.self (read _ _ c.next-3.new.self
+    (read _ _ c.next-2.new.self
+    (read _ _ c.next.new.self
+    (left_all _ _ c.args.line.now c.map-values.ensures.source c.map-values.ensures.closure c.split.ensures.rest c.split.ensures.done c.split.ensures.closure (λ x b q k. search (rules, tests)) (λ x r q k. search rules))
+    c.in_ok-next.ensures.steps c.in_ok-node.was)
+    c.in_ok-next-2.ensures.steps c.in_ok-parent.was)
+    c.in_ok-next-3.ensures.steps c.in_ok-burst.was) c.in_err-next-4.ensures.steps)
+
+pub returns-in_err-rate : goal.returns-in_err-rate
+returns-in_err-rate c =
+    rw c.from_residual-in_err-rate.ensures (unreadable _ _ c.next-4.new.self (read _ _ c.next-3.new.self
+    (read _ _ c.next-2.new.self
+    (read _ _ c.next.new.self
+    (left_all _ _ c.args.line.now c.map-values.ensures.source c.map-values.ensures.closure c.split.ensures.rest c.split.ensures.done c.split.ensures.closure (λ x b q k. search (rules, tests)) (λ x r q k. search rules))
+    c.in_ok-next.ensures.steps c.in_ok-node.was)
+    c.in_ok-next-2.ensures.steps c.in_ok-parent.was)
+    c.in_ok-next-3.ensures.steps c.in_ok-burst.was) c.in_ok-next-4.ensures.steps c.in_err-rate.was)
+
+pub returns-in-Some : goal.returns-in-Some
+returns-in-Some c =
+    behind _ _ c.next-5.new.self (read _ _ c.next-4.new.self
+    (read _ _ c.next-3.new.self
+    (read _ _ c.next-2.new.self
+    (read _ _ c.next.new.self
+    (left_all _ _ c.args.line.now c.map-values.ensures.source c.map-values.ensures.closure c.split.ensures.rest c.split.ensures.done c.split.ensures.closure (λ x b q k. search (rules, tests)) (λ x r q k. search rules))
+    c.in_ok-next.ensures.steps c.in_ok-node.was)
+    c.in_ok-next-2.ensures.steps c.in_ok-parent.was)
+    c.in_ok-next-3.ensures.steps c.in_ok-burst.was)
+    c.in_ok-next-4.ensures.steps c.in_ok-rate.was) c.in-Some.ensures.steps
+
+pub returns-in-None : goal.returns-in-None
+returns-in-None c =
+    whole _ _ c.next-5.new.self (read _ _ c.next-4.new.self
+    (read _ _ c.next-3.new.self
+    (read _ _ c.next-2.new.self
+    (read _ _ c.next.new.self
+    (left_all _ _ c.args.line.now c.map-values.ensures.source c.map-values.ensures.closure c.split.ensures.rest c.split.ensures.done c.split.ensures.closure (λ x b q k. search (rules, tests)) (λ x r q k. search rules))
+    c.in_ok-next.ensures.steps c.in_ok-node.was)
+    c.in_ok-next-2.ensures.steps c.in_ok-parent.was)
+    c.in_ok-next-3.ensures.steps c.in_ok-burst.was)
+    c.in_ok-next-4.ensures.steps c.in_ok-rate.was) c.in-None.ensures.steps

@@ -1,5 +1,4 @@
 -- `tree_slots::tally::superframe_of` meets its contract. Assumes nothing.
-use borrow.Author.Rules.{rules}
 use Rattle.tree_plan_model.proofs.Noting.{superframe-read}
 use Rattle.tree_slots.proofs.tally.superframe_of.Goals as goal
 

@@ -1,67 +1,43 @@
 -- `tree_slots::tally::tally` meets its contract. Assumes nothing.
 use mathlib.Core.Path.{sym, ◌∙◌}
-use Prim.Native.Nat.{◌+◌, ◌-◌, ◌≤◌, ◌<◌}
+use Prim.Native.Nat.{◌-◌, ◌<◌}
 use native.Mathlib.Omega.{arith}
-use lib.ListN.{length}
-use borrow.Author.Rules.{rules}
-use Rattle.tree_slots.proofs.Passing.{PassedTo, passed_none, passed-same, passed-more, passed-all, superframe-known, count_fits, slots-answered}
+use Rattle.tree_slots.proofs.Passing.{passed_none, passed-same, passed-more, passed-all, router-low, count_fits, slots-answered}
 use Rattle.tree_slots.proofs.tally.tally.Goals as goal
+use Rattle.tree_slots.proofs.tally.tally.Goals.{then-carries, else-carries}
 
 pub loop-v-init : goal.loop-v-init
-loop-v-init c = (omega arith, passed_none _ _ _ _ _ _ c.requires.counts_value c.requires.used_value)
+loop-v-init c = passed_none _ _ _ _ _ _ c.requires.counts_value c.requires.used_value
 
 pub bounds-counts-router : goal.bounds-counts-router
-bounds-counts-router c =
-    let next : c.loop-v.v + 1 < length c.args.parents.now = omega (arith, c.requires.loaded.some, c.loop-v-test.true) in
-    let router : c.superframe_of-router.result < 256 =
-    omega (arith, c.superframe_of-router.ensures, superframe-known c.args.t c.args.parents.now c.args.notes.now c.args.sink c.requires.loaded _ (omega arith) next) in
-    router
+bounds-counts-router c = router-low _ _ _ c.args.sink c.requires.loaded _ _ c.loop-v.auto.v c.loop-v-test.true c.superframe_of-router.ensures
 
 pub overflow_add-counts : goal.overflow_add-counts
 overflow_add-counts c =
     let i = c.loop-v in
-    let next : c.loop-v.v + 1 < length c.args.parents.now = omega (arith, c.requires.loaded.some, c.loop-v-test.true) in
-    let router : c.superframe_of-router.result < 256 =
-    omega (arith, c.superframe_of-router.ensures, superframe-known c.args.t c.args.parents.now c.args.notes.now c.args.sink c.requires.loaded _ (omega arith) next) in
-    omega (
-      arith,
-      count_fits c.args.t c.args.parents.now c.args.notes.now c.args.sink c.requires.loaded i.v c.superframe_of-router.result i.counts i.used
-          router next i.invariant.1,
-    )
+    let low = router-low _ _ _ c.args.sink c.requires.loaded _ _ i.auto.v c.loop-v-test.true c.superframe_of-router.ensures in
+    omega (arith, count_fits _ _ _ c.args.sink c.requires.loaded i.v i.auto.v c.loop-v-test.true _ low i.counts i.used i.invariant)
 
 pub bounds-counts-router-then-carries : goal.bounds-counts-router-then-carries
-bounds-counts-router-then-carries c =
-    let next : c.loop-v.v + 1 < length c.args.parents.now = omega (arith, c.requires.loaded.some, c.loop-v-test.true) in
-    let router : c.superframe_of-router.result < 256 =
-    omega (arith, c.superframe_of-router.ensures, superframe-known c.args.t c.args.parents.now c.args.notes.now c.args.sink c.requires.loaded _ (omega arith) next) in
-    router
+bounds-counts-router-then-carries c = router-low _ _ _ c.args.sink c.requires.loaded _ _ c.loop-v.auto.v c.loop-v-test.true c.superframe_of-router.ensures
 
 pub add_slots-requires : goal.add_slots-requires
-add_slots-requires c =
-    let next : c.loop-v.v + 1 < length c.args.parents.now = omega (arith, c.requires.loaded.some, c.loop-v-test.true) in
-    let router : c.superframe_of-router.result < 256 =
-    omega (arith, c.superframe_of-router.ensures, superframe-known c.args.t c.args.parents.now c.args.notes.now c.args.sink c.requires.loaded _ (omega arith) next) in
-    router
-
-pub loop-v-preserved-then-carries : goal.loop-v-preserved-then-carries
-loop-v-preserved-then-carries c =
-    let i = c.loop-v in
-    let next : c.loop-v.v + 1 < length c.args.parents.now = omega (arith, c.requires.loaded.some, c.loop-v-test.true) in
-    let low : c.loop-v.v + 1 < 256 = omega (arith, next, c.requires.loaded.few) in
-    let k =
-    slots-answered _ _ (i.v + 1) _ _ (c.requires.loaded.light (i.v + 1) (omega arith) next) low c.load_at.ensures c.reservation_for-reservation.ensures
-    in (
-      omega (arith, c.loop-v-test.true),
-      passed-more c.args.t c.args.parents.now c.args.notes.now c.args.sink c.requires.loaded i.v c.superframe_of-router.result _ i.counts i.used _
-          next (sym c.if-carries.true ∙ c.carries.ensures) c.superframe_of-router.ensures k c.add_slots.ensures i.invariant.1,
-    )
+add_slots-requires c = router-low _ _ _ c.args.sink c.requires.loaded _ _ c.loop-v.auto.v c.loop-v-test.true c.superframe_of-router.ensures
 
 pub loop-v-preserved : goal.loop-v-preserved
 loop-v-preserved c =
     let i = c.loop-v in
-    (omega (arith, c.loop-v-test.true), passed-same _ _ _ _ i.v i.counts i.used (sym c.if-carries.false ∙ c.carries.ensures) i.invariant.1)
+    let q = c.requires.loaded in
+    let low : i.v < 256 = omega (arith, c.loop-v-test.true, q.few) in
+    elim c.if-carries.branch [
+      | then-carries w ↦ (
+          let k = slots-answered _ _ i.v _ _ (q.light i.v i.auto.v c.loop-v-test.true) low w.load_at.ensures w.reservation_for-reservation.ensures in
+          rw (w.counts-is, w.used-is) (passed-more _ _ _ _ q i.v _ _ i.counts i.used _ i.auto.v c.loop-v-test.true (sym w.if-carries.true ∙ c.carries.ensures) w.superframe_of-router.ensures k w.add_slots.ensures i.invariant)
+          )
+      | else-carries w ↦ rw (w.counts-is, w.used-is) (passed-same _ _ _ _ i.v i.counts i.used i.auto.v (sym w.if-carries.false ∙ c.carries.ensures) i.invariant)
+    ]
 
 pub returns : goal.returns
 returns c =
     let i = c.loop-v in
-    passed-all _ _ _ _ i.v i.counts i.used c.requires.loaded.few (omega (arith, c.loop-v-test.false, i.invariant.0)) i.invariant.1
+    passed-all _ _ _ _ (i.v - 1) i.counts i.used c.requires.loaded.few (omega (arith, c.loop-v-test.false, i.auto.v-end c.requires.loaded.some)) i.invariant

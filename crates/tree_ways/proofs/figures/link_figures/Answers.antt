@@ -6,5 +6,5 @@ use Rattle.tree_ways.proofs.figures.link_figures.Goals as goal
 pub returns-then-load-eq0 : goal.returns-then-load-eq0
 returns-then-load-eq0 c = λ light. link-none c.args.t c.args.load _ (omega (arith, c.if-load-eq0.true)) c.no_figures.ensures
 
-pub returns : goal.returns
-returns c = λ light. link-made c.args.t c.args.load light _ _ c.if-load-eq0.false c.reservation_for.ensures c.figures_of.ensures
+pub returns-else-load-eq0 : goal.returns-else-load-eq0
+returns-else-load-eq0 c = λ light. link-made c.args.t c.args.load light _ _ c.if-load-eq0.false c.reservation_for.ensures c.figures_of.ensures

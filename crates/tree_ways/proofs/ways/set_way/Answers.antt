@@ -10,4 +10,4 @@ returns c =
     let a = c.args in
     let p = c.requires in
     ap (λ (x : ℕ). set a.ways.now a.v x)
-    (way-made a.t a.notes.now a.ways.now a.v a.u p.v_bound p.light _ _ _ c.load_at.ensures c.link_figures.ensures c.plus-way.ensures)
+    (way-made a.t a.notes.now a.ways.now a.v a.u p.v_bound p.light _ _ _ c.load_at.ensures c.link_figures.ensures c.plus.ensures)
