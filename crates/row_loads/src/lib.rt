@@ -45,7 +45,7 @@ fn sound_links(s: Settings, up: &mut [Link; DEPTHS], down: &mut [Link; DEPTHS]) 
     let made = sensor_load(s, t);
     let end = link_for(t, made);
     let local = near_load(s, made, end.reservation);
-    upward_links(s, t, local, up);
+    upward_links(s, t, local, 0, up);
     let passing = downward_links(s, t, local, up, down);
     Links {
         interval: t.interval,

@@ -1,5 +1,5 @@
 // The links of a row: the load that enters each, and the reservation that its rate needs. What is required here `sound_links` meets.
-ghost use Rattle.std.specs.Prelude.{◌≡◌, ◌<◌, ◌^◌};
+ghost use Rattle.std.specs.Prelude.{◌≡◌, ◌≤◌, ◌<◌, ◌^◌};
 ghost use Rattle.links.specs.Answers.{Timed};
 ghost use Rattle.row_model.specs.Times.{row_timing};
 ghost use Rattle.row_model.specs.Loads.{sensor, near};
@@ -49,19 +49,31 @@ fn joined_link(t: Timing, local: Load, below: Link, n: u64, down: Load) -> Link
     link_for(t, local.plus(left.times(n)).plus(down))
 }
 
-// Sets the upward links of depths H to 0, each from the one of the depth below it.
-pub(crate) fn upward_links(s: Settings, t: Timing, local: Load, up: &mut [Link; DEPTHS])
+// Sets the upward links of depths H to i, by recursion from depth H towards the root, and answers that of depth i. Stays as it is: document 01
+// asks for this recursion by name.
+pub(crate) fn upward_links(
+    s: Settings,
+    t: Timing,
+    local: Load,
+    i: u64,
+    up: &mut [Link; DEPTHS],
+) -> Link
     requires sound { Sound s }
     requires t_value { t ≡ row_timing s }
     requires local_value { local ≡ near s }
-    ensures { HeldFrom (link_up s) 0 s.h up.new }
+    requires i_le_h { i ≤ s.h }
+    ensures value { result ≡ link_up s i }
+    ensures held_from { HeldFrom (link_up s) i s.h up.new }
 {
-    let mut link = link_for(t, local);
-    up[s.h as usize] = link;
-    for i in (0..s.h).rev() {
-        link = joined_link(t, local, link, s.nr, NO_LOAD);
+    if i == s.h {
+        let link = link_for(t, local);
         up[i as usize] = link;
+        return link;
     }
+    let below = upward_links(s, t, local, i + 1, up);
+    let link = joined_link(t, local, below, s.nr, NO_LOAD);
+    up[i as usize] = link;
+    link
 }
 
 // Sets the downward links of depths 0 to SINK − 1, each from the upward link of the depth below it and the downward one above it, and

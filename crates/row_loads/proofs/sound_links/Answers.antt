@@ -13,13 +13,13 @@ near_load-local-requires-clause-end_value c =
 
 pub returns-clause-tables_held : goal.returns-clause-tables_held
 returns-clause-tables_held c =
-    record { sound = c.requires; upward = c.upward_links.ensures; downward = c.downward_links-passing.ensures.held_below }
+    record { sound = c.requires; upward = c.upward_links.ensures.held_from; downward = c.downward_links-passing.ensures.held_below }
 
 pub returns-clause-links_value : goal.returns-clause-links_value
 returns-clause-links_value c =
     let s = c.args.s in
     let t = c.row_timing-t.ensures in
-    let here = c.upward_links.ensures.held s.sink (omega arith) c.requires.checked.sink_depth in
+    let here = c.upward_links.ensures.held_from.held s.sink (omega arith) c.requires.checked.sink_depth in
     record {
       interval = ap (λ (x : Timing). x.interval) t;
       end = end-link-made s c.requires _ _ _ t c.sensor_load-made.ensures c.link_for-end.ensures;
