@@ -54,6 +54,6 @@ unfoldable pub reason : Refusal → List ℕ
 reason r = filled (place_of r) (map part_of (phrase_at (facts_of r).sort)) ((facts_of r).first ∷ (facts_of r).second ∷ [])
 
 -- the line of a row that is refused, or planned
-unfoldable pub verdict_line : Result ℕ Refusal → List ℕ
-verdict_line (Ok n) = ascii "The row is planned."
+unfoldable pub verdict_line : {A : Type 0} → Result A Refusal → List ℕ
+verdict_line (Ok a) = ascii "The row is planned."
 verdict_line (Err r) = reason r

@@ -35,9 +35,9 @@ pub fn put_reason(out: &mut [u8], refusal: Refusal) -> usize
     )
 }
 
-// Puts the line of a row that was refused, or that it is planned, and answers its length. How long the plan is plays no part.
+// Puts the line of a row that was refused, or that it is planned, and answers its length. What is answered of a planned row plays no part.
 #[tactic(auto, unfolding(reason_model::specs::Reasons::verdict_line, decimal_model::specs::Ascii::ascii))]
-pub fn put_verdict(out: &mut [u8], planned: Result<usize, Refusal>) -> usize
+pub fn put_verdict<T: Copy>(out: &mut [u8], planned: Result<T, Refusal>) -> usize
     ensures value { result ≡ length (verdict_line planned) }
     ensures upper_bound { result ≤ 160 }
     ensures out_after { out.new ≡ sets out.old 0 (verdict_line planned) }

@@ -1,7 +1,9 @@
 // The table of phrases: one for each sort of refusal.
 ghost use Rattle.std.specs.Prelude.{◌≡◌, ◌≤◌, length};
+ghost use Rattle.std.proofs.lemmas.List.Edits.{sets};
 ghost use Rattle.reason_model.specs.Reasons.{phrase_at};
 
+use buffer::put_bytes;
 use refusals::table::SORTS;
 
 // By the position of a sort.
@@ -35,4 +37,13 @@ pub fn phrase(sort: usize) -> &'static [u8]
     ensures upper_bound { length result.now ≤ 128 }
 {
     if sort < SORTS { PHRASES[sort] } else { b"" }
+}
+
+// Puts the phrase of a sort at the front of lent memory, as far as there is room, and answers its length: 128 bytes are always enough.
+pub fn put_phrase(out: &mut [u8], sort: usize) -> usize
+    ensures value { result ≡ length (phrase_at sort) }
+    ensures upper_bound { result ≤ 128 }
+    ensures out_after { out.new ≡ sets out.old 0 (phrase_at sort) }
+{
+    put_bytes(out, 0, phrase(sort))
 }

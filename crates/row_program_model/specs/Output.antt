@@ -21,7 +21,7 @@ use Rattle.row_program_model.specs.declared.Style.TheVariants.{Plans, Reasons}
 unfoldable pub printed : Style → RowOutcome → List ℕ
 printed Plans o = program.printed text o
 printed Reasons (Planned p) = ended (verdict_line (Ok (length (text p))) ∷ [])
-printed Reasons (Refused r) = ended (verdict_line (Err r) ∷ [])
+printed Reasons (Refused r) = ended (verdict_line {A = ℕ} (Err r) ∷ [])
 
 -- and for a refusal
 abbrev pub refusal_printed : Style → Refusal → List ℕ
