@@ -33,16 +33,18 @@ pub fn decide(s: Settings, table: &mut [u64]) -> Result<usize, Refusal>
 {
     let mut up = [NO_LINK; DEPTHS];
     let mut down = [NO_LINK; DEPTHS];
-    let links = check(s, &mut up, &mut down)?;
-    Ok(put_lines(
-        table,
-        &Row {
-            s,
-            links,
-            up: &up,
-            down: &down,
-        },
-    ))
+    match check(s, &mut up, &mut down) {
+        Ok(links) => Ok(put_lines(
+            table,
+            &Row {
+                s,
+                links,
+                up: &up,
+                down: &down,
+            },
+        )),
+        Err(refused) => Err(refused.refusal),
+    }
 }
 
 // Puts the planned lines: E, U from H down to 1, D from 0 up, S; and answers how many numbers they have.

@@ -11,6 +11,7 @@ ghost use Rattle.row_model.specs.Bounds.{Sound};
 ghost use Rattle.row_plan_model.specs.Inner.{TablesHeld, LinksOf, LinksLeft, checks_before_slots};
 
 use crate::loads::{downward_links, link_for, near_load, sensor_load, upward_links};
+use crate::table::link_at;
 use links::Timing;
 use plan_common::timing_of;
 use refusals::Refusal;
@@ -19,6 +20,7 @@ use row_plan_model::{DEPTHS, Link, Links};
 use settings::radio_of;
 use settings_model::Settings;
 
+pub mod table; // the links of the depths, read
 mod loads; // the load and the reservation of every link, from depth H to the root and on to the sink
 
 // Numbers 3 to 6 of any settings, and where they are kept the row's links: in two lent tables the upward and the downward ones. Refused
@@ -50,7 +52,7 @@ fn sound_links(s: Settings, up: &mut [Link; DEPTHS], down: &mut [Link; DEPTHS]) 
     Links {
         interval: t.interval,
         end,
-        arriving: up[s.sink as usize].load.plus(passing),
+        arriving: link_at(up, s.sink).load.plus(passing),
     }
 }
 

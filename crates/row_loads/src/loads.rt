@@ -6,6 +6,7 @@ ghost use Rattle.row_model.specs.Loads.{sensor, near};
 ghost use Rattle.row_model.specs.Bounds.{Sound, Bounded};
 ghost use Rattle.row_plan_model.specs.Inner.{HeldFrom, HeldBelow, coming, joined, left_by, link_of, link_up, link_down};
 
+use crate::table::link_at;
 use links::{Load, Reservation, Timing};
 use measure::{Frames, Rate};
 use row_plan_model::{DEPTHS, Link, NO_LOAD};
@@ -95,7 +96,7 @@ pub(crate) fn downward_links(
     // What comes down to depth i: nothing to the root.
     let mut passing = NO_LOAD;
     for i in 0..s.sink {
-        let below = up[i as usize + 1];
+        let below = link_at(up, i + 1);
         let link = joined_link(t, local, below, s.nr - 1, passing);
         down[i as usize] = link;
         passing = link.load.after(link.reservation);

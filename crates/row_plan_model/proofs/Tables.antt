@@ -1,9 +1,10 @@
 -- Tables of links, filled one depth after another. Assumes nothing.
 use Rattle.std.specs.Prelude.{slice_index_or}
 use mathlib.Core.Logic.{◌≢◌}
-use mathlib.Core.Path.{◌≡◌, ◌∙◌}
+use Rattle.std.proofs.Math.Nat.{min-eq_left}
+use mathlib.Core.Path.{◌≡◌, refl, ◌∙◌}
 use mathlib.Core.List.{List}
-use Prim.Native.Nat.{ℕ, ◌+◌, ◌<◌}
+use Prim.Native.Nat.{ℕ, ◌+◌, ◌<◌, min}
 use native.Mathlib.Decide.{ℕ_discrete}
 use native.Mathlib.Omega.{arith}
 use lib.ListN.{length, length-set, set}
@@ -43,3 +44,7 @@ module _ (f : ℕ → Link) (ls : List Link) (i : ℕ) (v : Link) (low : i < 13)
 -- nothing is asked of a table below depth 0
 pub none_below : (f : ℕ → Link) (ls : List Link) → length ls ≡ 13 → HeldBelow f 0 ls
 none_below f ls size = record { size = size; held = λ j low. absurd (omega arith) }
+
+-- a depth that a row can have is read as itself
+pub link-there : (ls : List Link) (i : ℕ) → i < 13 → slice_index_or ls (min i 12) no_link ≡ slice_index_or ls i no_link
+link-there ls i low = let e : min i 12 ≡ i = min-eq_left (omega arith) in rw e refl

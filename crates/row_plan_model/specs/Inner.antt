@@ -1,6 +1,6 @@
 -- What the inner functions presume and answer. Nobody has to believe this: the contract of the entry does not use it. Assumes nothing:
 -- these are definitions.
-use Rattle.std.specs.Prelude.{◌≡◌, List, ◌++◌, ℕ, zero, suc, ◌≤◌, ◌<◌, slice_index_or, length, Result, Ok, Err, IfOk}
+use Rattle.std.specs.Prelude.{◌≡◌, List, ◌++◌, ℕ, zero, suc, ◌≤◌, ◌<◌, slice_index_or, length, Option, Some, None, Result, Ok, Err, IfOk, MatchOption}
 use Rattle.measure.specs.Measures.{symbols, slots, frames}
 use Rattle.links.specs.declared.Load.{Load}
 use Rattle.links.specs.declared.Timing.{Timing}
@@ -11,6 +11,7 @@ use Rattle.settings_model.specs.declared.Settings.{Settings}
 use Rattle.settings_model.specs.Checks.{checks}
 use Rattle.row_plan_model.specs.declared.Link.{Link}
 use Rattle.row_plan_model.specs.declared.Links.{Links}
+use Rattle.row_plan_model.specs.declared.RefusedRow.{RefusedRow}
 use Rattle.row_plan_model.specs.declared.Row.{Row}
 use Rattle.row_model.specs.Times.{row_timing}
 use Rattle.row_model.specs.Loads.{left, upward, downward, sensor, at_sink}
@@ -86,9 +87,25 @@ checks_before_slots s = checks s ++ reservations s ++ routers_fit s
 
 -- ---- what is answered and left in two lent tables
 
+-- a row that is not refused, or its refusal without the links beside it
+abbrev pub told : Result Links RefusedRow → Result Links Refusal
+told (Ok l) = Ok l
+told (Err e) = Err e.refusal
+
+-- the links of a row, or those beside its refusal
+abbrev pub links_in : Result Links RefusedRow → Option Links
+links_in (Ok l) = Some l
+links_in (Err e) = e.links
+
 -- by the verdict on numbers 3 to 6: where they are kept, the tables hold the row's links, also where number 7 refuses it; else both tables are
 -- as they were. Where there are links beside them, they are the row's.
 pub record LinksLeft (s : Settings) (l : Result Links Refusal) (up up' down down' : List Link) : Type 0 where
   pub kept : verdict (checks_before_slots s) ≡ Ok tt → TablesHeld s up' down'
   pub refused : (r : Refusal) → verdict (checks_before_slots s) ≡ Err r → (up' ≡ up) × (down' ≡ down)
   pub links : IfOk l (LinksOf s)
+
+-- and beside the tables, by the same verdict: where they are kept, the row's links are there, also where number 7 refuses it; else there are
+-- none
+pub record LinksThere (s : Settings) (l : Result Links RefusedRow) : Type 0 where
+  pub kept : verdict (checks_before_slots s) ≡ Ok tt → MatchOption (links_in l) ⊥ (LinksOf s)
+  pub refused : (r : Refusal) → verdict (checks_before_slots s) ≡ Err r → links_in l ≡ None

@@ -4,6 +4,7 @@
 
 use links::{Load, Reservation};
 use measure::{FrameSymbols, Frames, Rate, Slots, Symbols};
+use refusals::Refusal;
 use settings_model::Settings;
 
 // How many numbers of a table are filled, and the sum of their lines' delays.
@@ -46,6 +47,13 @@ pub struct Links {
     pub interval: Symbols,
     pub end: Link,
     pub arriving: Load,
+}
+
+// Why a row has no plan: the first refusal, and the row's links where only its slots refuse it (7).
+#[derive(Clone, Copy)]
+pub struct RefusedRow {
+    pub refusal: Refusal,
+    pub links: Option<Links>,
 }
 
 // A row with its links: those beside the tables, and the tables of the upward and the downward ones.

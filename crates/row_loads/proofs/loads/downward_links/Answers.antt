@@ -1,10 +1,10 @@
 -- `row_loads::loads::downward_links` meets its contract. Assumes nothing.
-use mathlib.Core.Path.{sym}
+use mathlib.Core.Path.{sym, ◌∙◌}
 use native.Mathlib.Omega.{arith}
 use Prim.Native.Nat.{◌+◌}
 use Rattle.row_plan_model.specs.Inner.{link_down}
 use Rattle.row_plan_model.proofs.Depths.{down-made, coming-first, coming-made}
-use Rattle.row_plan_model.proofs.Tables.{none_below, set_below}
+use Rattle.row_plan_model.proofs.Tables.{none_below, set_below, link-there}
 use Rattle.row_loads.proofs.loads.downward_links.Goals as goal
 
 pub loop-i-init : goal.loop-i-init
@@ -15,7 +15,7 @@ loop-i-preserved c =
     let a = c.args in
     let p = c.requires in
     let i = c.loop-i.i in
-    let below = p.held_from.held (i + 1) (omega arith) (omega (arith, p.sound.checked.sink_depth)) in
+    let below = c.link_at-below.ensures ∙ link-there _ (i + 1) (omega (arith, p.sound.checked.sink)) ∙ p.held_from.held (i + 1) (omega arith) (omega (arith, p.sound.checked.sink_depth)) in
     let x = down-made a.s p.sound i a.t a.local _ _ _ c.loop-i-test.true p.t_value p.local_value below c.loop-i.invariant.passing c.joined_link-link.ensures in
     record {
       passing = coming-made a.s p.sound i _ _ c.loop-i-test.true x c.after-passing.ensures;
