@@ -11,6 +11,7 @@ use line_table::put_line;
 use links::Figures;
 use measure::{Frames, Slots, Symbols};
 use plan_model::{Kind, Line};
+use row_loads::table::link_at;
 use row_plan_model::{Filled, Link, Row};
 
 // Puts one line more.
@@ -87,7 +88,7 @@ pub(crate) fn put_upward(table: &mut [u64], w: Filled, row: &Row) -> Filled
             row.links.interval,
             Kind::Upward,
             i,
-            row.up[i as usize],
+            link_at(row.up, i),
         );
     }
     w
@@ -108,7 +109,7 @@ pub(crate) fn put_downward(table: &mut [u64], w: Filled, row: &Row) -> Filled
             row.links.interval,
             Kind::Downward,
             i,
-            row.down[i as usize],
+            link_at(row.down, i),
         );
     }
     w

@@ -10,6 +10,7 @@ ghost use Rattle.row_plan_model.specs.Inner.{RowHeld};
 
 use measure::Slots;
 use refusals::Refusal;
+use row_loads::table::link_at;
 use row_plan_model::Row;
 use settings_model::Settings;
 use superframe::orders::reservable_slots;
@@ -73,7 +74,7 @@ fn off_path_slots(row: &Row, i: u64) -> Slots
 {
     let ends = row.links.end.reservation.slots.times(row.s.ne);
     if i < row.s.h {
-        let below = row.up[i as usize + 1].reservation.slots;
+        let below = link_at(row.up, i + 1).reservation.slots;
         return ends.plus(below.times(row.s.nr));
     }
     ends
@@ -86,8 +87,8 @@ fn on_path_slots(row: &Row, i: u64) -> Slots
     ensures { result ≡ used_on_path row.now.s i }
 {
     let end = row.links.end.reservation.slots;
-    let below = row.up[i as usize + 1].reservation.slots;
-    let own = row.down[i as usize].reservation.slots;
+    let below = link_at(row.up, i + 1).reservation.slots;
+    let own = link_at(row.down, i).reservation.slots;
     end.times(row.s.ne)
         .plus(below.times(row.s.nr - 1))
         .plus(own)

@@ -7,6 +7,7 @@ use Rattle.plan_model.specs.declared.Kind.TheVariants.{Downward}
 use Rattle.plan_model.specs.Lines.{line}
 use Rattle.row_plan_model.specs.Pages.{Page, page, pushed, filled, down_lines_from}
 use Rattle.row_plan_model.proofs.PageLaws.{down-figures, down_step, down-end}
+use Rattle.row_plan_model.proofs.Tables.{link-there}
 use Rattle.row_decide.proofs.lines.put_downward.Goals as goal
 
 pub loop-i-preserved : goal.loop-i-preserved
@@ -15,7 +16,8 @@ loop-i-preserved c =
     let s = c.args.row.now.s in
     let p = c.requires in
     let low = c.loop-i-test.true in
-    let f = down-figures s p.held.tables.sound l.i _ _ _ low p.held.links.interval (p.held.tables.downward.held l.i low) refl in
+    let link = c.link_at.ensures ∙ link-there _ l.i (omega (arith, p.held.tables.sound.checked.sink)) ∙ p.held.tables.downward.held l.i low in
+    let f = down-figures s p.held.tables.sound l.i _ _ _ low p.held.links.interval link refl in
     let w = c.put_link-w.ensures in
     let e = w.table_after ∙ ap (λ (x : Figures). pushed (page l.w l.table) (line Downward l.i x)) f in
     record {

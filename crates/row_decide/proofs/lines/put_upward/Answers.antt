@@ -8,6 +8,7 @@ use Rattle.plan_model.specs.Lines.{line}
 use Rattle.row_model.specs.Lines.{up_lines}
 use Rattle.row_plan_model.specs.Pages.{Page, page, pushed, filled}
 use Rattle.row_plan_model.proofs.PageLaws.{up-figures, up_step, up-end}
+use Rattle.row_plan_model.proofs.Tables.{link-there}
 use Rattle.row_decide.proofs.lines.put_upward.Goals as goal
 
 pub loop-i-preserved : goal.loop-i-preserved
@@ -15,7 +16,8 @@ loop-i-preserved c =
     let l = c.loop-i in
     let s = c.args.row.now.s in
     let p = c.requires in
-    let f = up-figures s p.held.tables.sound l.i _ _ _ p.held.links.interval (p.held.tables.upward.held l.i (omega arith) (omega arith)) refl in
+    let link = c.link_at.ensures ∙ link-there _ l.i (omega (arith, p.held.tables.sound.checked.h)) ∙ p.held.tables.upward.held l.i (omega arith) (omega arith) in
+    let f = up-figures s p.held.tables.sound l.i _ _ _ p.held.links.interval link refl in
     let w = c.put_link-w.ensures in
     let e = w.table_after ∙ ap (λ (x : Figures). pushed (page l.w l.table) (line Upward l.i x)) f in
     record {
