@@ -20,7 +20,7 @@ use row_plan_model::{DEPTHS, Link, Links};
 use settings::radio_of;
 use settings_model::Settings;
 
-pub mod table; // the links of the depths, read
+pub mod table; // the link of a depth, read from a table
 mod loads; // the load and the reservation of every link, from depth H to the root and on to the sink
 
 // Numbers 3 to 6 of any settings, and where they are kept the row's links: in two lent tables the upward and the downward ones. Refused

@@ -1,4 +1,4 @@
-// The links of the depths, read from a table of them.
+// Tables of links, one link for each depth, as they are read.
 ghost use Rattle.std.specs.Prelude.{◌≡◌, min, slice_index_or};
 ghost use Rattle.row_plan_model.specs.Inner.{no_link};
 

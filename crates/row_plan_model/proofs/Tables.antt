@@ -1,7 +1,7 @@
 -- Tables of links, filled one depth after another. Assumes nothing.
 use Rattle.std.specs.Prelude.{slice_index_or}
-use mathlib.Core.Logic.{◌≢◌}
 use Rattle.std.proofs.Math.Nat.{min-eq_left}
+use mathlib.Core.Logic.{◌≢◌}
 use mathlib.Core.Path.{◌≡◌, refl, ◌∙◌}
 use mathlib.Core.List.{List}
 use Prim.Native.Nat.{ℕ, ◌+◌, ◌<◌, min}

@@ -17,8 +17,8 @@ use settings_model::Settings;
 mod slots; // number 7
 
 // All conditions on settings in their order, and where they are kept the row's links: in two lent tables the upward and the downward ones.
-// Settings that numbers 3 to 6 refuse leave both tables as they were; where 7 refuses them the tables hold the links too, and the others stand
-// beside the refusal.
+// Settings that numbers 3 to 6 refuse leave both tables as they were, and have no links; where 7 refuses them the tables hold the links too,
+// and those beside the tables stand beside the refusal.
 #[tactic(auto, using(refusals::proofs::Answering::two_verdicts), unfolding(row_model::specs::Checks::conditions, row_plan_model::specs::Inner::checks_before_slots))]
 pub fn check(
     s: Settings,
