@@ -43,7 +43,10 @@ pub fn decide(
     let mut notes = [0u64; 768];
     let mut depths = [0u8; 256];
     let mut ways = [0u64; 256];
-    let stage = hops_of(input, b, sink, &mut notes, &mut depths, &mut ways, hops)?;
+    let stage = match hops_of(input, b, sink, &mut notes, &mut depths, &mut ways, hops) {
+        Ok(stage) => stage,
+        Err(refused) => return Err(refused.refusal),
+    };
     put_lines(
         timing_of(b),
         &stage.kin[..=stage.nodes],

@@ -11,19 +11,18 @@ ghost use Rattle.refusals.specs.Conditions.{verdict, verdict_of};
 ghost use Rattle.tree_read_model.specs.Survey.{tree_in, outcome_in};
 ghost use Rattle.plan_model.specs.Plans.{written};
 ghost use Rattle.tree_plan_model.specs.Hops.{hops_of};
-ghost use Rattle.tree_plan_model.specs.Stages.{conditions_in, LoadsLeft, WaysLeft};
+ghost use Rattle.tree_plan_model.specs.Stages.{conditions_in, told, LoadsLeft, StageLeft, WaysLeft};
 
 use crate::hops::put_hops;
-use refusals::Refusal;
 use settings_model::Radio;
-use tree_plan_model::Stage;
+use tree_plan_model::{RefusedTree, Stage};
 use tree_ways::ways_of;
 
 mod hops; // node after node
 
 // Checks every condition for any settings and any sink, and where they are kept puts each node's parent, its neighbour towards the sink and
-// the router in whose superframe its link lies, as far as there is room. Refused, every byte is as it was. The other tables are those of
-// `tree_ways`.
+// the router in whose superframe its link lies, as far as there is room. Refused, every byte is as it was. The other tables, and a
+// refused tree's stage, are those of `tree_ways`.
 pub fn hops_of(
     input: &[u8],
     b: Radio,
@@ -32,10 +31,11 @@ pub fn hops_of(
     depths: &mut [u8; 256],
     ways: &mut [u64; 256],
     hops: &mut [u8],
-) -> Result<Stage, Refusal>
-    ensures verdict_value { verdict_of result ≡ verdict (conditions_in input.now b sink) }
-    ensures loads_left { LoadsLeft input.now b sink result notes.old notes.new }
-    ensures ways_left { WaysLeft input.now b sink (verdict_of result) notes.new depths.old depths.new
+) -> Result<Stage, RefusedTree>
+    ensures verdict_value { verdict_of (told result) ≡ verdict (conditions_in input.now b sink) }
+    ensures loads_left { LoadsLeft input.now b sink (told result) notes.old notes.new }
+    ensures stage_left { StageLeft input.now b sink result notes.new }
+    ensures ways_left { WaysLeft input.now b sink (verdict_of (told result)) notes.new depths.old depths.new
         ways.old ways.new }
     ensures hops_after { hops.new ≡ sets hops.old 0
         (written (hops_of (tree_in input.now) sink) (outcome_in input.now b sink)) }

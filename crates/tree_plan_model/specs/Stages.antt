@@ -1,6 +1,6 @@
 -- What the stages from a text to its plan's numbers answer: the verdict on more and more conditions, and what lent tables hold then. Assumes
 -- nothing: these are definitions.
-use Rattle.std.specs.Prelude.{◌≡◌, List, ◌∷◌, ◌++◌, map, ℕ, suc, ◌≤◌, take, Result, Ok, Err, IfOk, ⊤}
+use Rattle.std.specs.Prelude.{◌≡◌, List, ◌∷◌, ◌++◌, map, ℕ, suc, ◌≤◌, take, Option, Some, None, IsSomeAnd, Result, Ok, Err, IfOk, ⊤}
 use Rattle.refusals.specs.declared.Refusal.{Refusal}
 use Rattle.refusals.specs.Conditions.{Condition, verdict}
 use Rattle.settings_model.specs.declared.Radio.{Radio}
@@ -11,6 +11,7 @@ use Rattle.tree_model.specs.Checks.{routers_fit, conditions}
 use Rattle.tree_read_model.specs.Entries.{entry_in}
 use Rattle.tree_read_model.specs.Survey.{node_lines, parent_in, burst_in, rate_in, tree_in, surveyed}
 use Rattle.tree_plan_model.specs.declared.Stage.{Stage}
+use Rattle.tree_plan_model.specs.declared.RefusedTree.{RefusedTree}
 use Rattle.tree_plan_model.specs.Children.{Linked}
 use Rattle.tree_plan_model.specs.Inner.{Listing, AllRight}
 use Rattle.tree_plan_model.specs.Filled.{DepthsSet, WaysSet}
@@ -54,6 +55,22 @@ pub record LoadsLeft (input : List ℕ) (b : Radio) (sink : ℕ) (r : Result Sta
   pub held : IfOk r (λ s. LoadsHeld input b sink s.nodes s.kin ns')
   pub kept : verdict (conditions_before_slots input b sink) ≡ Ok tt → AllRight (timing_of b) (tree_in input) sink ns'
   pub refused : (x : Refusal) → verdict (conditions_before_slots input b sink) ≡ Err x → ns' ≡ ns
+
+-- what a stage behind that one answers, but for the stage of a tree that it refuses
+abbrev pub told : Result Stage RefusedTree → Result Stage Refusal
+told (Ok s) = Ok s
+told (Err r) = Err r.refusal
+
+-- and the stage that it answers, of a tree that is kept or refused
+abbrev pub stage_in : Result Stage RefusedTree → Option Stage
+stage_in (Ok s) = Some s
+stage_in (Err r) = r.stage
+
+-- by the verdict on the same conditions: where they are kept, there is a stage, also where 5 or 7 refuses the tree, and its nodes and kin are
+-- the list's; else there is none
+pub record StageLeft (input : List ℕ) (b : Radio) (sink : ℕ) (r : Result Stage RefusedTree) (ns' : List ℕ) : Type 0 where
+  pub kept : verdict (conditions_before_slots input b sink) ≡ Ok tt → IsSomeAnd (stage_in r) (λ s. LoadsHeld input b sink s.nodes s.kin ns')
+  pub refused : (x : Refusal) → verdict (conditions_before_slots input b sink) ≡ Err x → stage_in r ≡ None
 
 -- by the verdict on all: where they are kept, the depths and the ways' delays stand in two tables more; else every number is as it was
 pub record WaysLeft (input : List ℕ) (b : Radio) (sink : ℕ) (v : Result ⊤ Refusal) (ns' hs hs' ws ws' : List ℕ) : Type 0 where

@@ -21,3 +21,10 @@ pub struct Stage {
     pub nodes: usize,
     pub kin: [u8; 768],
 }
+
+// Why a tree has no plan: the first refusal, and the stage of the tree where only its slots refuse it (5 or 7).
+#[derive(Clone, Copy)]
+pub struct RefusedTree {
+    pub refusal: Refusal,
+    pub stage: Option<Stage>,
+}

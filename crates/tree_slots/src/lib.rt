@@ -6,7 +6,7 @@
 
 ghost use Rattle.std.specs.Prelude.{◌≡◌, ◌≤◌, ◌-◌, length};
 ghost use Rattle.refusals.specs.Conditions.{verdict, verdict_of};
-ghost use Rattle.tree_plan_model.specs.Stages.{conditions_in, LoadsLeft};
+ghost use Rattle.tree_plan_model.specs.Stages.{conditions_in, told, LoadsLeft, StageLeft};
 ghost use Rattle.tree_plan_model.specs.Tables.{Loaded, routers_in_from};
 
 use crate::routers::routers_fit;
@@ -16,21 +16,40 @@ use plan_common::timing_of;
 use refusals::Refusal;
 use settings_model::Radio;
 use tree_loads::loads_of;
-use tree_plan_model::Stage;
+use tree_plan_model::{RefusedTree, Stage};
 
 mod routers; // numbers 5 and 7, router by router
 mod tally; // the reservations of every router, by one pass
 
 // Checks every condition, 10 and 3 to 7, for any settings and any sink. Lent notes are those of `loads_of`: made where 10, 3, 4 and 6 are
-// kept, and else as they were.
-pub fn check(input: &[u8], b: Radio, sink: u64, notes: &mut [u64; 768]) -> Result<Stage, Refusal>
-    ensures verdict_value { verdict_of result ≡ verdict (conditions_in input.now b sink) }
-    ensures loads_left { LoadsLeft input.now b sink result notes.old notes.new }
+// kept, and else as they were. There the stage is answered too, also where 5 or 7 refuses the tree.
+pub fn check(
+    input: &[u8],
+    b: Radio,
+    sink: u64,
+    notes: &mut [u64; 768],
+) -> Result<Stage, RefusedTree>
+    ensures verdict_value { verdict_of (told result) ≡ verdict (conditions_in input.now b sink) }
+    ensures loads_left { LoadsLeft input.now b sink (told result) notes.old notes.new }
+    ensures stage_left { StageLeft input.now b sink result notes.new }
 {
-    let stage = loads_of(input, b, sink, notes)?;
+    let stage = match loads_of(input, b, sink, notes) {
+        Ok(stage) => stage,
+        Err(refusal) => {
+            return Err(RefusedTree {
+                refusal,
+                stage: None,
+            });
+        }
+    };
     let parents = &stage.kin[..=stage.nodes];
-    slots_fit(timing_of(b), b.so, parents, notes, sink as usize)?;
-    Ok(stage)
+    match slots_fit(timing_of(b), b.so, parents, notes, sink as usize) {
+        Ok(()) => Ok(stage),
+        Err(refusal) => Err(RefusedTree {
+            refusal,
+            stage: Some(stage),
+        }),
+    }
 }
 
 // Numbers 5 and 7.

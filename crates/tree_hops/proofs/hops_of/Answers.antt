@@ -17,7 +17,7 @@ returns-in_err-stage c =
     let p = err_from_is_err_and c.from_residual.result c.from_residual.ensures.1 in
     let e = c.in_err-stage.ensures in
     let o = outcome-refused x.input.now x.b x.sink _ (sym e.verdict_value) in
-    rw (p.1, p.2) (record { verdict_value = e.verdict_value; loads_left = e.loads_left; ways_left = e.ways_left; hops_after = refused-put (hops_of (tree_in x.input.now) x.sink) _ _ x.hops.now o })
+    rw (p.1, p.2) (record { verdict_value = e.verdict_value; loads_left = e.loads_left; stage_left = e.stage_left; ways_left = e.ways_left; hops_after = refused-put (hops_of (tree_in x.input.now) x.sink) _ _ x.hops.now o })
 
 pub put_hops-requires : goal.put_hops-requires
 put_hops-requires c = let w = hops-asked _ _ _ _ _ _ c.in_ok-stage.ensures.loads_left.held in record { parents_len_bound = w.0; led = w.1 }

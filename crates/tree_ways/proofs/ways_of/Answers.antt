@@ -8,7 +8,7 @@ returns-in_err-stage c =
     let x = c.args in
     let p = err_from_is_err_and c.from_residual.result c.from_residual.ensures.1 in
     let e = c.in_err-stage.ensures in
-    rw (p.1, p.2) (record { verdict_value = e.verdict_value; loads_left = e.loads_left; ways_left = ways-refused x.input.now x.b x.sink _ _ x.depths.now x.ways.now })
+    rw (p.1, p.2) (record { verdict_value = e.verdict_value; loads_left = e.loads_left; stage_left = e.stage_left; ways_left = ways-refused x.input.now x.b x.sink _ _ x.depths.now x.ways.now })
 
 pub set_depths-requires-clause-rooted : goal.set_depths-requires-clause-rooted
 set_depths-requires-clause-rooted c = (led-held _ _ _ _ _ _ c.in_ok-stage.ensures.loads_left.held).planted
