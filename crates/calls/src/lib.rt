@@ -18,7 +18,7 @@ use refusals::Refusal;
 use superframe::exchange;
 
 // The answer to a plan: number 0 and the text's length, or number and place of the refusal.
-#[tactic(auto, unfolding(calls_model::specs::Inner::answer_of))]
+#[tactic(auto, unfolding(calls_model::specs::Inner::answer_of, calls_model::specs::Calls::answer_to_refusal))]
 pub fn answer_of(planned: Result<usize, Refusal>) -> Answer
     ensures { result ≡ answer_of planned }
 {

@@ -22,6 +22,7 @@ fn zero_led(word: &[u8]) -> bool
 }
 
 // The place that a word is, where it is a number of 32 bits.
+#[tactic(auto, using(crate::proofs::Places::read_whole))]
 pub(crate) fn place_in(word: &[u8]) -> Option<u32>
     ensures { result ≡ place_in word.now }
 {

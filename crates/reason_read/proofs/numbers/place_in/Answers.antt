@@ -4,7 +4,7 @@ use Prim.Native.Nat.{◌+◌, ◌-◌, ◌*◌}
 use native.Mathlib.Omega.{arith}
 use lib.ListN.{get_or}
 use Rattle.decimal_model.proofs.Spelling.{spelled_step}
-use Rattle.reason_model.proofs.Words.{no-numeral, place-over, place-whole}
+use Rattle.reason_model.proofs.Words.{no-numeral, place-over}
 use Rattle.reason_read.proofs.numbers.place_in.Goals as goal
 
 pub returns-then-not-is_numeral : goal.returns-then-not-is_numeral
@@ -29,8 +29,3 @@ loop-digit-preserved c =
     let l = c.loop-digit in
     let z : c.in_ok-place.place ≡ 10 * l.place + (get_or w l.digit-index 0 - 48) = omega (arith, c.in_ok-place.ensures, c.in_ok-checked_mul.ensures, c.from.ensures, c.saturating_sub.ensures) in
     record { small = omega (arith, c.in_ok-place.ensures); left = rw z (sym (spelled_step w l.digit-index l.place c.loop-digit-test.true) ∙ l.invariant.left) }
-
-pub returns : goal.returns
-returns c =
-    let l = c.loop-digit in
-    place-whole c.args.word.now (sym c.is_numeral.ensures ∙ c.if-not-is_numeral.false) l.digit-index l.place l.invariant.left c.loop-digit-test.false l.invariant.small

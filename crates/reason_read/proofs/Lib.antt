@@ -1,0 +1,3 @@
+-- Laws about what is read. Assumes nothing.
+-- a number of any length, read to its end
+pub mod Places
