@@ -26,8 +26,7 @@ pub loop-piece-preserved : goal.loop-piece-preserved
 loop-piece-preserved g c =
     let i = c.loop-piece.invariant in
     let a = piece-answered c.args.style c.args.input.now c.loop-piece.progress c.in-Some.piece c.in-Some.ensures.value in
-    let bytes = put (step c.args.style c.args.input.now c.loop-piece.progress) in
-    (
+    let bytes = put (step c.args.style c.args.input.now c.loop-piece.progress) in (
       i.0 ++ bytes,
       Appends-trans _ _ _ i.0 bytes i.1 (subst (Appends _ _) (put_front c.next_piece.new.out c.loop-piece.out bytes _ (omega (arith, a.counted)) (omega (arith, c.in-Some.ensures.length_bound)) c.in-Some.ensures.out_after) c.in_ok-write_all.ensures.bytes),
       moved i.0 bytes _ _ _ a.prints i.2,
