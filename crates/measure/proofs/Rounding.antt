@@ -1,6 +1,6 @@
 -- Quotients rounded up: rounded_up a b is the fewest b that hold a. Assumes nothing.
 use mathlib.Core.Path.{◌≡◌, sym}
-use Prim.Native.Nat.{ℕ, suc, ◌+◌, ◌-◌, ◌*◌, ◌/◌, ◌%◌, ◌≤◌, ◌<◌}
+use Prim.Native.Nat.{ℕ, suc, ◌+◌, ◌-◌, ◌*◌, ◌/◌, ◌%◌, ◌≤◌, ◌<◌, min}
 use native.Mathlib.Omega.{arith}
 use native.Mathlib.Nat.{div-add-mod', mod-lt, div-lt_iff_lt-mul, suc-mul, le_antisymm, div-zero, mul-le-mul_right}
 use native.Mathlib.Decide.{dec_le}
@@ -46,3 +46,10 @@ rounded-up-ceil a b p = by (dec_le 1 (a % b)) where
   by (no h) =
       let m : div_ceil a b ≡ a / b = omega arith in
       rw m (sym (rounded-up-only a b (a / b) p (omega (arith, div-add-mod' a b)) (omega (arith, div-add-mod' a b))))
+
+-- the quotient by none and by some, as the check of `number::rounded_up` compares its results, whatever the body is
+pub up_by_none : (a b : ℕ) → b ≡ 0 → rounded_up a b ≡ 0
+up_by_none a b z = rw z (rounded-up-by-zero a)
+
+pub up_by_some : (a b : ℕ) → 0 < b → rounded_up a b ≡ a / b + min 1 (a % b)
+up_by_some a b p = sym (rounded-up-ceil a b p)

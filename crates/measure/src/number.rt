@@ -39,6 +39,7 @@ pub fn rest(a: u64, b: u64) -> u64
 }
 
 // a / b rounded up, 0 where b is 0.
+#[tactic(auto, using(crate::proofs::Rounding::up_by_none, crate::proofs::Rounding::up_by_some))]
 pub fn rounded_up(a: u64, b: u64) -> u64
     ensures { result ≡ rounded_up a b }
 {
