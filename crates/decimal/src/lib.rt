@@ -76,6 +76,7 @@ pub fn put_number(out: &mut [u8], at: usize, n: u64) -> usize
 }
 
 // How many digits a number has.
+#[tactic(auto, using(decimal_model::proofs::Putting::length_small, decimal_model::proofs::Putting::length_by_power))]
 pub fn digits_of(n: u64) -> usize
     ensures { result ≡ length (decimal n) }
 {

@@ -1,5 +1,5 @@
 -- A number put in decimal, four digits at a time, and its digits counted. Assumes nothing.
-use mathlib.Core.Path.{◌≡◌, ap, ◌∙◌}
+use mathlib.Core.Path.{◌≡◌, ap, sym, ◌∙◌}
 use mathlib.Core.List.{List, [], ◌∷◌, ◌++◌, append_assoc}
 use Prim.Native.Nat.{ℕ, zero, suc, ◌+◌, ◌*◌, ◌/◌, ◌%◌, ◌^◌, ◌≤◌, ◌<◌}
 use native.Mathlib.Nat.{pow-suc, pow-le-pow_right}
@@ -49,6 +49,13 @@ length-power (suc k) n l h =
     let o : 1 ≤ suc k = omega arith in
     let ten : 10 ^ 1 ≤ 10 ^ suc k = pow-le-pow_right z o in
     omega (arith, decimal-step-length n (omega arith), length-power k (n / 10) (omega arith) (omega arith))
+
+-- the same for the check of `decimal::digits_of`, which compares its results with the number of digits, whatever the body is
+pub length_small : (n : ℕ) → n < 10 → length (decimal n) ≡ 1
+length_small n h = sym (length-one n h)
+
+pub length_by_power : (k n : ℕ) → 10 ^ k ≤ n → n < 10 * 10 ^ k → length (decimal n) ≡ k + 1
+length_by_power k n l h = sym (length-power k n l h)
 
 pub length_more : (n : ℕ) → 10000 ≤ n → length (decimal n) ≡ length (decimal (n / 10000)) + 4
 unfolding four
