@@ -1,11 +1,11 @@
 -- Bytes put one behind another, and all at once. Assumes nothing.
 use mathlib.Core.Path.{◌≡◌, refl, ap, sym, ◌∙◌}
 use mathlib.Core.List.{List, [], ◌∷◌, ◌++◌, append-nil, append_assoc}
-use Prim.Native.Nat.{ℕ, suc, ◌+◌, ◌-◌, ◌≤◌, ◌<◌, min}
+use Prim.Native.Nat.{ℕ, zero, suc, ◌+◌, ◌-◌, ◌≤◌, ◌<◌, min}
 use native.Mathlib.Decide.{dec_le}
 use native.Mathlib.Omega.{arith}
-use lib.ListN.{length, take, drop, set, length-drop, drop_of_length-le, take-append-drop}
-use lib.Seq.{sets, sets-eq, set_comm, set_out, take_all, take_at, drop-drop, length-take-le, length-sets}
+use lib.ListN.{length, get_or, take, drop, set, length-drop, drop_of_length-le, take-append-drop}
+use lib.Seq.{sets, sets-eq, set-set, set_comm, set_out, take_all, take_at, drop-drop, length-take-le, length-sets}
 
 -- bytes put behind bytes are both put
 pub sets-sets : (e : List ℕ) (at : ℕ) (t u : List ℕ) → sets (sets e at t) (at + length t) u ≡ sets e at (t ++ u)
@@ -80,3 +80,25 @@ sets-copied e at n t p inside q w =
       append_assoc (take at e) (take n t) (drop (at + n) e),
     )
     )
+
+-- the same, with what lies there then written out
+pub sets-copied-in : (e : List ℕ) (at n : ℕ) (t : List ℕ) → at ≤ length e → n ≡ min (length t) (length (take (length e - at) (drop at e)))
+    → take at e ++ ((take n t ++ drop n (take (length e - at) (drop at e))) ++ drop (length e - at) (drop at e)) ≡ sets e at t
+sets-copied-in e at n t inside q = sets-copied e at n t _ inside q refl
+
+-- a byte put again where it was put
+pub sets-again : (e : List ℕ) (at : ℕ) (t : List ℕ) (k : ℕ) → k < length t → set (sets e at t) (at + k) (get_or t k 0) ≡ sets e at t
+sets-again e at [] k h = absurd (omega arith)
+sets-again e at (b ∷ bs) zero h =
+    let z : at + 0 ≡ at = omega arith in
+    rw (z, set_before (set e at b) (suc at) bs at b (omega arith), set-set e at b b) refl
+sets-again e at (b ∷ bs) (suc k) h =
+    let z : at + suc k ≡ suc at + k = omega arith in
+    rw z (sets-again (set e at b) (suc at) bs k (omega arith))
+
+-- a part that leaves nothing out
+pub part-whole : (t : List ℕ) (k n : ℕ) → k ≡ 0 → length t ≤ n → take n (drop k t) ≡ t
+part-whole t k n q h = rw q (take_all n t h)
+
+-- what is left where bytes are copied: the whole text or a part, with room or without, and bytes put again
+pub ruleset put_at_once = (sets-copied-in, sets-out, sets-again, part-whole)

@@ -20,6 +20,7 @@ pub fn put_byte(out: &mut [u8], at: usize, k: usize, b: u8)
 
 // Puts bytes at a position, as far as there is room, and answers how many they are. They are copied at once, which is faster than byte by
 // byte.
+#[tactic(auto, using(crate::proofs::Putting::put_at_once))]
 pub fn put_bytes(out: &mut [u8], at: usize, text: &[u8]) -> usize
     ensures value { result ≡ length text.now }
     ensures out_after { out.new ≡ sets out.old at text.now }
