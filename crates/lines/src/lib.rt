@@ -39,6 +39,7 @@ pub fn next_line(text: &[u8], cursor: Cursor) -> Option<Line>
 }
 
 // The bytes from start up to, not including, end; none where the text has no such part.
+#[tactic(auto, unfolding(crate::specs::Text::part_of))]
 pub fn part(text: &[u8], start: usize, end: usize) -> &[u8]
     ensures { result.now ≡ part_of text.now start end }
 {
